@@ -1,0 +1,67 @@
+//! The laws of systems and designs. Each is the contract of a function that does nothing.
+ghost use Rattle.std.specs.Prelude.{◌≡◌, ℕ, suc, ◌<◌, ◌≤◌, ◌↔◌, Bool, cond};
+ghost use Rattle.eq_model.specs.System.{System, Values, IsSystem, IsLoopFree, Reads, Cycle, IsInput, Begins, Follows, compute, rounds, nothing, HasOneCycle};
+ghost use Rattle.eq_model.specs.Run.{Design, Given, Run, HasOneRun, HasPorts, Equivalent};
+ghost use Rattle.eq_model.specs.Frames.{HasOneList};
+ghost use Rattle.eq_model.specs.Combinational.{IsCombinational, SameValues};
+ghost use Rattle.eq_model.specs.Agreement.{SameDesign};
+
+/// One cycle: where the inputs, the registers and any further bits are given values, exactly one list of values meets
+/// the other drivers.
+pub fn one_cycle()
+    ensures { (s : System) → IsSystem s → IsLoopFree s → (cut : ℕ → Bool) (u : Values) → HasOneCycle s cut u }
+{}
+
+/// A cycle is solved exactly where each bit has the value that it is given or that its driver computes.
+pub fn computed()
+    ensures { (s : System) (cut : ℕ → Bool) (u v : Values) →
+        (Cycle s cut u v ↔ ((b : ℕ) → b < s.bits → v b ≡ cond (cut b) (u b) (compute (s.driver b) v (u b)))) }
+{}
+
+/// In a system without a loop, as many rounds of computing all bits as there are bits solve a cycle.
+pub fn rounds_solve()
+    ensures { (s : System) → IsSystem s → IsLoopFree s → (cut : ℕ → Bool) (u : Values) → Cycle s cut u (rounds s cut u s.bits) }
+{}
+
+/// A system has no loop where each bit reads only bits of lower rank.
+pub fn ranked()
+    ensures { (s : System) → IsSystem s → (rank : ℕ → ℕ) → ((a b : ℕ) → a < s.bits → Reads s a b → rank b < rank a) → IsLoopFree s }
+{}
+
+/// In a system without a loop each bit has such a rank, and none is above the number of bits.
+pub fn heights()
+    ensures { (s : System) → IsSystem s → IsLoopFree s → (height : ℕ → ℕ) × ((a b : ℕ) → a < s.bits → Reads s a b → height b < height a) ×
+        ((b : ℕ) → b < s.bits → height b ≤ s.bits) }
+{}
+
+/// A design without a loop has exactly one run, on each list of inputs of each length.
+pub fn one_run()
+    ensures { (d : Design) → IsSystem d.system → IsLoopFree d.system → (given : Given) (n : ℕ) → HasOneRun d given n }
+{}
+
+/// The same with a run as a list of frames.
+pub fn one_list()
+    ensures { (d : Design) → IsSystem d.system → IsLoopFree d.system → (given : Given) (n : ℕ) → HasOneList d given n }
+{}
+
+/// Cycles that are solved one after another are a run, where u has the inputs, in the first cycle the registers' initial
+/// values, and in each later cycle what the registers follow with.
+pub fn steps()
+    ensures { (d : Design) (given : Given) (n : ℕ) (u v : ℕ → Values) → ((c : ℕ) → c < n → Cycle d.system nothing (u c) (v c)) →
+        ((c b : ℕ) → c < n → b < d.bits → IsInput (d.driver b) → u c b ≡ given c (d.key b)) →
+        (0 < n → (b : ℕ) → b < d.bits → Begins (d.driver b) (u 0 b)) →
+        ((c b : ℕ) → suc c < n → b < d.bits → Follows (d.driver b) (v c) (u (suc c) b)) → Run d given n v }
+{}
+
+/// Designs without registers are equivalent exactly where their outputs have the same values for all values of the inputs.
+pub fn combinational()
+    ensures { (gold gate : Design) → IsCombinational gold → IsCombinational gate → IsSystem gold.system → IsSystem gate.system →
+        IsLoopFree gold.system → IsLoopFree gate.system → HasPorts gold gate → HasPorts gate gold →
+        (Equivalent gold gate ↔ SameValues gold gate) }
+{}
+
+/// Designs that agree may stand for one another in an equivalence.
+pub fn agreement()
+    ensures { (gold gate other_gold other_gate : Design) → SameDesign gold other_gold → SameDesign gate other_gate →
+        Equivalent gold gate → Equivalent other_gold other_gate }
+{}
