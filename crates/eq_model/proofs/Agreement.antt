@@ -1,8 +1,15 @@
--- Designs that agree have the same runs, and may stand for one another in an equivalence
-use Rattle.std.proofs.Common.{ℕ, suc, ◌<◌, Bool, arith, sym, ap, subst, ◌∙◌}
-use Rattle.eq_model.specs.System.{Values, Expr, Driver, input, undriven, equation, register, IsInput, Meets, Begins, Follows}
-use Rattle.eq_model.specs.Run.{Dir, IsPort, Given, Design, Run, HasOneRun, HasPorts, SameOutputs, Equivalent}
-use Rattle.eq_model.specs.Agreement.{SameExpr, SameDriver, SameDesign}
+-- Designs that agree have the same runs and the same cut runs, and may stand for one another.
+use Rattle.std.proofs.Common.{ℕ, suc, ◌<◌, Bool, List, [], ◌∷◌, Contains, arith, sym, ap, subst, ◌∙◌}
+use Rattle.eq_model.specs.System.{Values, Expr, Driver, input, undriven, equation, register, System, IsExpr, IsDriver, IsSystem, IsInput, IsLoopFree, IsChain, reads_now, Meets, Begins, Follows, Solves, IsInitial, nothing}
+use Rattle.eq_model.specs.Run.{Dir, IsPort, Given, Design, IsDesign, Run, HasOneRun, HasPorts, SameOutputs, Equivalent}
+use Rattle.eq_model.specs.Agreement.{SameExpr, SameDriver, SameSystem, SameDesign}
+use Rattle.eq_model.specs.Plan.{Plan, PairsPorts, Covers}
+use Rattle.eq_model.specs.Cut.{is_cut, CutRun, IsFromInitial, Base, Step, Never}
+use Rattle.eq_model.specs.Part.{Part}
+use Rattle.eq_model.specs.Denotes.{Denotes}
+use Rattle.eq_model.proofs.Order.{reads_bounded}
+
+-- one driver
 
 expr_back : (e f : Expr) → SameExpr e f → SameExpr f e
 expr_back e f h = record { reads = λ b. ((h.reads b).1, (h.reads b).0); value = λ v. sym (h.value v) }
@@ -14,89 +21,244 @@ driver_back (equation e) (equation f) h = expr_back e f h
 driver_back (register i e) (register j f) h = (sym h.0, expr_back e f h.1)
 driver_back _ _ h = absurd h
 
+is_input_same : (d e : Driver) → SameDriver d e → IsInput d → IsInput e
+is_input_same input input h i = tt
+is_input_same undriven undriven h i = i
+is_input_same (equation e) (equation f) h i = i
+is_input_same (register i e) (register j f) h k = k
+is_input_same _ _ h i = absurd h
+
+meets_same : (d e : Driver) → SameDriver d e → (v : Values) (x : Bool) → Meets d v x → Meets e v x
+meets_same input input h v x m = tt
+meets_same undriven undriven h v x m = m
+meets_same (equation e) (equation f) h v x m = m ∙ h.value v
+meets_same (register i e) (register j f) h v x m = tt
+meets_same _ _ h v x m = absurd h
+
+follows_same : (d e : Driver) → SameDriver d e → (v : Values) (x : Bool) → Follows d v x → Follows e v x
+follows_same input input h v x m = tt
+follows_same undriven undriven h v x m = tt
+follows_same (equation e) (equation f) h v x m = tt
+follows_same (register i e) (register j f) h v x m = m ∙ h.1.value v
+follows_same _ _ h v x m = absurd h
+
+begins_same : (d e : Driver) → SameDriver d e → (x : Bool) → Begins d x → Begins e x
+begins_same input input h x m = tt
+begins_same undriven undriven h x m = tt
+begins_same (equation e) (equation f) h x m = tt
+begins_same (register i e) (register j f) h x m = m ∙ h.0
+begins_same _ _ h x m = absurd h
+
+reads_same : (d e : Driver) → SameDriver d e → (b : ℕ) → Contains (reads_now d) b → Contains (reads_now e) b
+reads_same input input h b c = c
+reads_same undriven undriven h b c = c
+reads_same (equation e) (equation f) h b c = (h.reads b).0 c
+reads_same (register i e) (register j f) h b c = c
+reads_same _ _ h b c = absurd h
+
+is_expr_same : (n : ℕ) (e f : Expr) → SameExpr e f → IsExpr n e → IsExpr n f
+is_expr_same n e f h is = record {
+  bounded = λ b c. is.bounded b ((h.reads b).1 c);
+  respects = λ v w agree. sym (h.value v) ∙ is.respects v w (λ b c. agree b ((h.reads b).0 c)) ∙ h.value w;
+}
+
+is_driver_same : (n : ℕ) (d e : Driver) → SameDriver d e → IsDriver n d → IsDriver n e
+is_driver_same n input input h is = tt
+is_driver_same n undriven undriven h is = tt
+is_driver_same n (equation e) (equation f) h is = is_expr_same n e f h is
+is_driver_same n (register i e) (register j f) h is = is_expr_same n e f h.1 is
+is_driver_same n _ _ h is = absurd h
+
+-- one system
+
+pub system_back : (s t : System) → SameSystem s t → SameSystem t s
+system_back s t h = record {
+  bits = sym h.bits;
+  drivers = λ b lt. driver_back (s.driver b) (t.driver b) (h.drivers b (let same = h.bits in omega arith));
+}
+
+module _ (s t : System) (same : SameSystem s t) where
+  pub within : (b : ℕ) → b < t.bits → b < s.bits
+  within b lt = (let e = same.bits in omega arith)
+
+  pub is_system_same : IsSystem s → IsSystem t
+  is_system_same is b lt =
+      let P : ℕ → Type 0 = λ n. IsDriver n (t.driver b) in
+      subst P same.bits (is_driver_same s.bits (s.driver b) (t.driver b) (same.drivers b (within b lt)) (is b (within b lt)))
+
+  pub solves_same : (cut : ℕ → Bool) (n : ℕ) (v : ℕ → Values) → Solves s cut n v → Solves t cut n v
+  solves_same cut n v h = record {
+    now = λ c b lc lt kept. meets_same (s.driver b) (t.driver b) (same.drivers b (within b lt)) (v c) (v c b) (h.now c b lc (within b lt) kept);
+    next = λ c b lc lt kept. follows_same (s.driver b) (t.driver b) (same.drivers b (within b lt)) (v c) (v (suc c) b) (h.next c b lc (within b lt) kept);
+  }
+
+  pub initial_same : (cut : ℕ → Bool) (v : Values) → IsInitial s cut v → IsInitial t cut v
+  initial_same cut v h b lt kept = begins_same (s.driver b) (t.driver b) (same.drivers b (within b lt)) (v b) (h b (within b lt) kept)
+
+-- a chain of one system's reads is one of the other's, as long as all its bits are bits of the systems
+chain_same : (s t : System) → SameSystem s t → IsSystem s → (a : ℕ) (cs : List ℕ) (b : ℕ) → a < s.bits → IsChain s a cs b → IsChain t a cs b
+chain_same s t same is a [] b lt h = reads_same (s.driver a) (t.driver a) (same.drivers a lt) b h
+chain_same s t same is a (c ∷ cs) b lt h =
+    (reads_same (s.driver a) (t.driver a) (same.drivers a lt) c h.0, chain_same s t same is c cs b (reads_bounded s.bits (s.driver a) (is a lt) c h.0) h.1)
+
+pub loop_free_same : (s t : System) → SameSystem s t → IsSystem s → IsLoopFree s → IsLoopFree t
+loop_free_same s t same is free b cs lt h =
+    free b cs (within s t same b lt) (chain_same t s (system_back s t same) (is_system_same s t same is) b cs b lt h)
+
+-- one design
+
 pub back : (d e : Design) → SameDesign d e → SameDesign e d
 back d e h = record {
-  bits = sym h.bits;
-  drivers = λ b lt. driver_back (d.driver b) (e.driver b) (h.drivers b (let same = h.bits in omega arith));
-  keys = λ b lt. sym (h.keys b (let same = h.bits in omega arith));
-  dirs = λ b lt. sym (h.dirs b (let same = h.bits in omega arith));
-  ranges = λ b lt. sym (h.ranges b (let same = h.bits in omega arith));
-  automatic = λ b lt. sym (h.automatic b (let same = h.bits in omega arith));
+  system = system_back d.system e.system h.system;
+  keys = λ b lt. sym (h.keys b (within d.system e.system h.system b lt));
+  dirs = λ b lt. sym (h.dirs b (within d.system e.system h.system b lt));
+  ranges = λ b lt. sym (h.ranges b (within d.system e.system h.system b lt));
+  automatic = λ b lt. sym (h.automatic b (within d.system e.system h.system b lt));
   ports = sym h.ports;
   clock = sym h.clock;
-  copies = λ b lt. sym (h.copies b (let same = h.bits in omega arith));
+  copies = λ b lt. sym (h.copies b (within d.system e.system h.system b lt));
 }
 
-is_input_alike : (d e : Driver) → SameDriver d e → IsInput e → IsInput d
-is_input_alike input input h i = tt
-is_input_alike undriven undriven h i = i
-is_input_alike (equation e) (equation f) h i = i
-is_input_alike (register i e) (register j f) h k = k
-is_input_alike _ _ h i = absurd h
+module _ (d e : Design) (same : SameDesign d e) where
+  below : (b : ℕ) → b < e.bits → b < d.bits
+  below b lt = within d.system e.system same.system b lt
 
-meets_alike : (d e : Driver) → SameDriver d e → (v : Values) (x : Bool) → Meets d v x → Meets e v x
-meets_alike input input h v x m = tt
-meets_alike undriven undriven h v x m = m
-meets_alike (equation e) (equation f) h v x m = m ∙ h.value v
-meets_alike (register i e) (register j f) h v x m = tt
-meets_alike _ _ h v x m = absurd h
+  input_back : (b : ℕ) → b < e.bits → IsInput (e.driver b) → IsInput (d.driver b)
+  input_back b lt i = is_input_same (e.driver b) (d.driver b) (driver_back (d.driver b) (e.driver b) (same.system.drivers b (below b lt))) i
 
-follows_alike : (d e : Driver) → SameDriver d e → (v : Values) (x : Bool) → Follows d v x → Follows e v x
-follows_alike input input h v x m = tt
-follows_alike undriven undriven h v x m = tt
-follows_alike (equation e) (equation f) h v x m = tt
-follows_alike (register i e) (register j f) h v x m = m ∙ h.1.value v
-follows_alike _ _ h v x m = absurd h
+  input_on : (b : ℕ) → b < e.bits → IsInput (d.driver b) → IsInput (e.driver b)
+  input_on b lt i = is_input_same (d.driver b) (e.driver b) (same.system.drivers b (below b lt)) i
 
-begins_alike : (d e : Driver) → SameDriver d e → (x : Bool) → Begins d x → Begins e x
-begins_alike input input h x m = tt
-begins_alike undriven undriven h x m = tt
-begins_alike (equation e) (equation f) h x m = tt
-begins_alike (register i e) (register j f) h x m = m ∙ h.0
-begins_alike _ _ h x m = absurd h
-
-module _ (d e : Design) (alike : SameDesign d e) where
-  within : (b : ℕ) → b < e.bits → b < d.bits
-  within b lt = (let same = alike.bits in omega arith)
-
-  pub run_alike : (given : Given) (n : ℕ) (v : ℕ → Values) → Run d given n v → Run e given n v
-  run_alike given n v run = record {
-    inputs = λ c b lc lt i. run.inputs c b lc (within b lt) (is_input_alike (d.driver b) (e.driver b) (alike.drivers b (within b lt)) i) ∙ ap (given c) (alike.keys b (within b lt));
-    begins = λ pos b lt kept. begins_alike (d.driver b) (e.driver b) (alike.drivers b (within b lt)) (v 0 b) (run.begins pos b (within b lt) kept);
-    solves = record {
-      now = λ c b lc lt kept. meets_alike (d.driver b) (e.driver b) (alike.drivers b (within b lt)) (v c) (v c b) (run.solves.now c b lc (within b lt) kept);
-      next = λ c b lc lt kept. follows_alike (d.driver b) (e.driver b) (alike.drivers b (within b lt)) (v c) (v (suc c) b) (run.solves.next c b lc (within b lt) kept);
-    };
+  pub is_design_same : IsDesign d → IsDesign e
+  is_design_same is = record {
+    drivers = is_system_same d.system e.system same.system is.drivers;
+    inputs = λ b lt. (
+      (λ i. sym (same.dirs b (below b lt)) ∙ (is.inputs b (below b lt)).0 (input_back b lt i)),
+      (λ f. input_on b lt ((is.inputs b (below b lt)).1 (same.dirs b (below b lt) ∙ f))),
+    );
+    apart = λ a b la lb f. is.apart a b (below a la) (below b lb) (same.keys a (below a la) ∙ f ∙ sym (same.keys b (below b lb)));
   }
 
-has_one_alike : (d e : Design) → SameDesign d e → (given : Given) (n : ℕ) → HasOneRun d given n → HasOneRun e given n
-has_one_alike d e alike given n h = record {
-  some = (h.some.0, run_alike d e alike given n h.some.0 h.some.1);
-  only = λ v w hv hw c b lc lt. h.only v w (run_alike e d (back d e alike) given n v hv) (run_alike e d (back d e alike) given n w hw) c b lc (within d e alike b lt);
+  pub run_same : (given : Given) (n : ℕ) (v : ℕ → Values) → Run d given n v → Run e given n v
+  run_same given n v run = record {
+    inputs = λ c b lc lt i. run.inputs c b lc (below b lt) (input_back b lt i) ∙ ap (given c) (same.keys b (below b lt));
+    begins = λ pos. initial_same d.system e.system same.system nothing (v 0) (run.begins pos);
+    solves = solves_same d.system e.system same.system nothing n v run.solves;
+  }
+
+has_one_same : (d e : Design) → SameDesign d e → (given : Given) (n : ℕ) → HasOneRun d given n → HasOneRun e given n
+has_one_same d e same given n h = record {
+  some = (h.some.0, run_same d e same given n h.some.0 h.some.1);
+  only = λ v w hv hw c b lc lt. h.only v w (run_same e d (back d e same) given n v hv) (run_same e d (back d e same) given n w hw) c b lc (within d.system e.system same.system b lt);
 }
 
-ports_alike : (d e d' e' : Design) → SameDesign d d' → SameDesign e e' → HasPorts d e → HasPorts d' e'
-ports_alike d e d' e' hd he ports a la port =
-    let la' = within d d' hd a la in
-    let P : Dir → Type 0 = λ x. IsPort x in
-    let t = ports a la' (subst P (sym (hd.dirs a la')) port) in
-    let same = he.bits in
-    let lb : t.0 < e.bits = t.1 in
-    (t.0, omega arith, sym (he.dirs t.0 lb) ∙ t.2 ∙ hd.dirs a la', sym (he.keys t.0 lb) ∙ t.3 ∙ hd.keys a la')
+-- two designs
 
-module _ (gold gate gold' gate' : Design) (a : SameDesign gold gold') (b : SameDesign gate gate') (h : Equivalent gold gate) where
-  outputs : SameOutputs gold' gate'
-  outputs given n v w hv hw c i j lc li lj di dj same =
-      let li' = within gold gold' a i li in
-      let lj' = within gate gate' b j lj in
-      h.outputs given n v w (run_alike gold' gold (back gold gold' a) given n v hv) (run_alike gate' gate (back gate gate' b) given n w hw) c i j lc li' lj'
-      (a.dirs i li' ∙ di) (b.dirs j lj' ∙ dj) (a.keys i li' ∙ same ∙ sym (b.keys j lj'))
+module _ (gold gold' gate gate' : Design) (g : SameDesign gold gold') (h : SameDesign gate gate') where
+  ports_same : HasPorts gold gate → HasPorts gold' gate'
+  ports_same ports a la port =
+      let la' = within gold.system gold'.system g.system a la in
+      let P : Dir → Type 0 = λ x. IsPort x in
+      let t = ports a la' (subst P (sym (g.dirs a la')) port) in
+      let e = h.system.bits in
+      let lb : t.0 < gate.bits = t.1 in
+      (t.0, omega arith, sym (h.dirs t.0 lb) ∙ t.2 ∙ g.dirs a la', sym (h.keys t.0 lb) ∙ t.3 ∙ g.keys a la')
 
-  pub equivalent_alike : Equivalent gold' gate'
-  equivalent_alike = record {
-    gold_ports = ports_alike gold gate gold' gate' a b h.gold_ports;
-    gate_ports = ports_alike gate gold gate' gold' b a h.gate_ports;
-    gold_run = λ given n. has_one_alike gold gold' a given n (h.gold_run given n);
-    gate_run = λ given n. has_one_alike gate gate' b given n (h.gate_run given n);
-    outputs = outputs;
+  pairs_ports_same : (pairs : ℕ) (here there : ℕ → ℕ) → ((i : ℕ) → i < pairs → there i < gate.bits) → PairsPorts gold gate pairs here there → PairsPorts gold' gate' pairs here there
+  pairs_ports_same pairs here there bits ports a la port =
+      let la' = within gold.system gold'.system g.system a la in
+      let P : Dir → Type 0 = λ x. IsPort x in
+      let t = ports a la' (subst P (sym (g.dirs a la')) port) in
+      let lb = bits t.0 t.1 in
+      (t.0, t.1, t.2, subst P (h.dirs (there t.0) lb) t.3, sym (h.keys (there t.0) lb) ∙ t.4 ∙ g.keys a la')
+
+module _ (gold gold' gate gate' : Design) (g : SameDesign gold gold') (h : SameDesign gate gate') where
+  outputs : SameOutputs gold gate → SameOutputs gold' gate'
+  outputs same given n v w hv hw c i j lc li lj di dj key =
+      let li' = within gold.system gold'.system g.system i li in
+      let lj' = within gate.system gate'.system h.system j lj in
+      same given n v w (run_same gold' gold (back gold gold' g) given n v hv) (run_same gate' gate (back gate gate' h) given n w hw) c i j lc li' lj'
+      (g.dirs i li' ∙ di) (h.dirs j lj' ∙ dj) (g.keys i li' ∙ key ∙ sym (h.keys j lj'))
+
+  pub equivalent_same : Equivalent gold gate → Equivalent gold' gate'
+  equivalent_same e = record {
+    gold_ports = ports_same gold gold' gate gate' g h e.gold_ports;
+    gate_ports = ports_same gate gate' gold gold' h g e.gate_ports;
+    gold_run = λ given n. has_one_same gold gold' g given n (e.gold_run given n);
+    gate_run = λ given n. has_one_same gate gate' h given n (e.gate_run given n);
+    outputs = outputs e.outputs;
   }
+
+  pub covers_same : (p : Plan) → Covers gold gate p → Covers gold' gate' p
+  covers_same p c =
+      let P : Dir → Type 0 = λ x. IsPort x in
+      let gold_bits = g.system.bits in
+      let gate_bits = h.system.bits in
+      record {
+        gold_bits = λ i lt. (let le : p.gold i < gold.bits = c.gold_bits i lt in omega arith);
+        gate_bits = λ i lt. (let le : p.gate i < gate.bits = c.gate_bits i lt in omega arith);
+        gold_once = c.gold_once;
+        gate_once = c.gate_once;
+        gold_ports = pairs_ports_same gold gold' gate gate' g h p.pairs p.gold p.gate c.gate_bits c.gold_ports;
+        gate_ports = pairs_ports_same gate gate' gold gold' h g p.pairs p.gate p.gold c.gold_bits c.gate_ports;
+        plain_ports = λ i lt port. c.plain_ports i lt (subst P (sym (g.dirs (p.gold i) (c.gold_bits i lt))) port);
+        gold_inputs = λ i lt. (
+          (λ e. sym (g.dirs (p.gold i) (c.gold_bits i lt)) ∙ (c.gold_inputs i lt).0 e),
+          (λ e. (c.gold_inputs i lt).1 (g.dirs (p.gold i) (c.gold_bits i lt) ∙ e)),
+        );
+        gate_inputs = λ i lt. (
+          (λ e. sym (h.dirs (p.gate i) (c.gate_bits i lt)) ∙ (c.gate_inputs i lt).0 e),
+          (λ e. (c.gate_inputs i lt).1 (h.dirs (p.gate i) (c.gate_bits i lt) ∙ e)),
+        );
+        in_one = c.in_one;
+        in_pairs = c.in_pairs;
+        some_held = c.some_held;
+      }
+
+-- two systems and a partition
+
+module _ (p : Plan) (inside : ℕ → Bool) where
+  module _ (s s' h h' : System) (same_s : SameSystem s s') (same_h : SameSystem h h') where
+    pub cut_run_same : (n : ℕ) (v w : ℕ → Values) → CutRun s h p inside n v w → CutRun s' h' p inside n v w
+    cut_run_same n v w run = record {
+      some = run.some;
+      gold_solves = solves_same s s' same_s (is_cut p.pairs p.gold inside) n v run.gold_solves;
+      gate_solves = solves_same h h' same_h (is_cut p.pairs p.gate inside) n w run.gate_solves;
+      equal = run.equal;
+    }
+
+    pub from_initial_same : (v w : ℕ → Values) → IsFromInitial s h p inside v w → IsFromInitial s' h' p inside v w
+    from_initial_same v w begins = record {
+      gold_begins = initial_same s s' same_s (is_cut p.pairs p.gold inside) (v 0) begins.gold_begins;
+      gate_begins = initial_same h h' same_h (is_cut p.pairs p.gate inside) (w 0) begins.gate_begins;
+    }
+
+    pub base_same : (k : ℕ) → Base s h p inside k → Base s' h' p inside k
+    base_same k b = record { v = b.v; w = b.w; run = cut_run_same k b.v b.w b.run; initial = from_initial_same b.v b.w b.initial; differ = b.differ }
+
+    pub step_same : (k : ℕ) → Step s h p inside k → Step s' h' p inside k
+    step_same k b = record { v = b.v; w = b.w; run = cut_run_same (suc k) b.v b.w b.run; same = b.same; differ = b.differ }
+
+  module _ (s s' h h' : System) (same_s : SameSystem s s') (same_h : SameSystem h h') where
+    cut_run_back : (n : ℕ) (v w : ℕ → Values) → CutRun s' h' p inside n v w → CutRun s h p inside n v w
+    cut_run_back = cut_run_same s' s h' h (system_back s s' same_s) (system_back h h' same_h)
+
+    from_initial_back : (v w : ℕ → Values) → IsFromInitial s' h' p inside v w → IsFromInitial s h p inside v w
+    from_initial_back = from_initial_same s' s h' h (system_back s s' same_s) (system_back h h' same_h)
+
+    pub never_same : Never s h p inside → Never s' h' p inside
+    never_same never n v w run begins = never n v w (cut_run_back n v w run) (from_initial_back v w begins)
+
+    pub denotes_same : (t : Part) → Denotes s h p inside t → Denotes s' h' p inside t
+    denotes_same t d = record {
+      pinout = d.pinout;
+      part_run = λ n v w run. d.part_run n v w (cut_run_back n v w run);
+      cut_run = λ n given x pos run. (
+          let r = d.cut_run n given x pos run in
+          (r.0, r.1, cut_run_same s s' h h' same_s same_h n r.0 r.1 r.2, r.3));
+      part_run_initial = λ n v w run begins. d.part_run_initial n v w (cut_run_back n v w run) (from_initial_back v w begins);
+      cut_run_initial = λ n given x pos run begins. (
+          let r = d.cut_run_initial n given x pos run begins in
+          (r.0, r.1, cut_run_same s s' h h' same_s same_h n r.0 r.1 r.2, from_initial_same s s' h h' same_s same_h r.0 r.1 r.3, r.4));
+      trim = d.trim;
+    }

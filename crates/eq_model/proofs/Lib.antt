@@ -5,3 +5,7 @@ pub mod Moves
 pub mod Frames
 pub mod Agreement
 pub mod Combinational
+pub mod Signs
+pub mod Places
+pub mod Induction
+pub mod Composition

@@ -1,6 +1,6 @@
 -- When two designs are the same one: the same nets, ports and clock, and the same equations bit by bit.
 use Rattle.std.specs.Prelude.{◌≡◌, ℕ, ◌<◌, Contains, ◌↔◌}
-use Rattle.eq_model.specs.System.{Values, Expr, Driver, input, undriven, equation, register}
+use Rattle.eq_model.specs.System.{Values, Expr, Driver, input, undriven, equation, register, System}
 use Rattle.eq_model.specs.Run.{Design}
 
 -- the same reads, as sets, and the same value for all values of the bits
@@ -16,10 +16,14 @@ SameDriver (equation e) (equation f) = SameExpr e f
 SameDriver (register i e) (register j f) = (i ≡ j) × SameExpr e f
 SameDriver _ _ = ⊥
 
+-- the same bits with the same drivers
+pub record SameSystem (s t : System) : Type 0 where
+  pub bits : s.bits ≡ t.bits
+  pub drivers : (b : ℕ) → b < s.bits → SameDriver (s.driver b) (t.driver b)
+
 -- the two designs agree in every point. How an expression is written isn't one
 pub record SameDesign (d e : Design) : Type 0 where
-  pub bits : d.bits ≡ e.bits
-  pub drivers : (b : ℕ) → b < d.bits → SameDriver (d.driver b) (e.driver b)
+  pub system : SameSystem d.system e.system
   pub keys : (b : ℕ) → b < d.bits → d.key b ≡ e.key b
   pub dirs : (b : ℕ) → b < d.bits → d.dir b ≡ e.dir b
   pub ranges : (b : ℕ) → b < d.bits → d.range b ≡ e.range b

@@ -3,3 +3,10 @@ pub mod Run
 pub mod Frames
 pub mod Combinational
 pub mod Agreement
+pub mod Plan
+pub mod Cut
+pub mod Kind
+pub mod Part
+pub mod Denotes
+pub mod Copying
+pub mod Graph

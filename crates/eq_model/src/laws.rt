@@ -1,10 +1,12 @@
 //! The laws of systems and designs. Each is the contract of a function that does nothing.
 ghost use Rattle.std.specs.Prelude.{◌≡◌, ℕ, suc, ◌<◌, ◌≤◌, ◌↔◌, Bool, cond};
 ghost use Rattle.eq_model.specs.System.{System, Values, IsSystem, IsLoopFree, Reads, Cycle, IsInput, Begins, Follows, compute, rounds, nothing, HasOneCycle};
-ghost use Rattle.eq_model.specs.Run.{Design, Given, Run, HasOneRun, HasPorts, Equivalent};
+ghost use Rattle.eq_model.specs.Run.{Design, IsDesign, Given, Run, HasOneRun, HasPorts, Equivalent};
 ghost use Rattle.eq_model.specs.Frames.{HasOneList};
 ghost use Rattle.eq_model.specs.Combinational.{IsCombinational, SameValues};
 ghost use Rattle.eq_model.specs.Agreement.{SameDesign};
+ghost use Rattle.eq_model.specs.Plan.{Plan, Covers};
+ghost use Rattle.eq_model.specs.Cut.{Base, Step, Never};
 
 /// One cycle: where the inputs, the registers and any further bits are given values, exactly one list of values meets
 /// the other drivers.
@@ -58,6 +60,27 @@ pub fn combinational()
     ensures { (gold gate : Design) → IsCombinational gold → IsCombinational gate → IsSystem gold.system → IsSystem gate.system →
         IsLoopFree gold.system → IsLoopFree gate.system → HasPorts gold gate → HasPorts gate gold →
         (Equivalent gold gate ↔ SameValues gold gate) }
+{}
+
+/// Induction: where no cut run from the initial values differs in its last cycle after 1 to k cycles, and no cut run that
+/// is equal in k cycles differs in the next, no cut run from the initial values ever differs.
+pub fn induction()
+    ensures { (gold gate : System) (p : Plan) (inside : ℕ → Bool) (k : ℕ) →
+        ((j : ℕ) → 1 ≤ j → j ≤ k → Base gold gate p inside j → ⊥) → (Step gold gate p inside k → ⊥) → Never gold gate p inside }
+{}
+
+/// Composition: where the plan covers two designs without a loop, and no partition ever differs, the designs are equivalent.
+/// The reads of the two designs taken together may form cycles across partitions.
+pub fn composition()
+    ensures { (gold gate : Design) (p : Plan) → IsDesign gold → IsDesign gate → IsLoopFree gold.system → IsLoopFree gate.system →
+        Covers gold gate p → ((q : ℕ) → q < p.parts → Never gold.system gate.system p (p.holds q)) → Equivalent gold gate }
+{}
+
+/// Both together: where induction proves each partition, at a k of its own, the designs are equivalent.
+pub fn all_proved()
+    ensures { (gold gate : Design) (p : Plan) → IsDesign gold → IsDesign gate → IsLoopFree gold.system → IsLoopFree gate.system →
+        Covers gold gate p → ((q : ℕ) → q < p.parts → (k : ℕ) × ((j : ℕ) → 1 ≤ j → j ≤ k → Base gold.system gate.system p (p.holds q) j → ⊥) ×
+        (Step gold.system gate.system p (p.holds q) k → ⊥)) → Equivalent gold gate }
 {}
 
 /// Designs that agree may stand for one another in an equivalence.

@@ -1,5 +1,5 @@
-use Rattle.eq_model.proofs.Agreement.{equivalent_alike}
+use Rattle.eq_model.proofs.Agreement.{equivalent_same}
 use Rattle.eq_model.proofs.laws.agreement.Goals as goal
 
 pub returns : goal.returns
-returns c = equivalent_alike
+returns c = λ gold gate gold' gate' g h. equivalent_same gold gold' gate gate' g h
