@@ -3,7 +3,7 @@ use Rattle.std.proofs.Common.{ℕ, suc, ◌<◌, Bool, List, [], ◌∷◌, Cont
 use Rattle.eq_model.specs.System.{Values, Expr, Driver, input, undriven, equation, register, System, IsExpr, IsDriver, IsSystem, IsInput, IsLoopFree, IsChain, reads_now, Meets, Begins, Follows, Solves, IsInitial, nothing}
 use Rattle.eq_model.specs.Run.{Dir, IsPort, Given, Design, IsDesign, Run, HasOneRun, HasPorts, SameOutputs, Equivalent}
 use Rattle.eq_model.specs.Agreement.{SameExpr, SameDriver, SameSystem, SameDesign}
-use Rattle.eq_model.specs.Plan.{Plan, PairsPorts, Covers}
+use Rattle.eq_model.specs.Plan.{Plan, IsOneToOne, PairsPorts, Covers}
 use Rattle.eq_model.specs.Cut.{is_cut, CutRun, IsFromInitial, Base, Step, Never}
 use Rattle.eq_model.specs.Part.{Part}
 use Rattle.eq_model.specs.Denotes.{Denotes}
@@ -105,6 +105,17 @@ pub loop_free_same : (s t : System) → SameSystem s t → IsSystem s → IsLoop
 loop_free_same s t same is free b cs lt h =
     free b cs (within s t same b lt) (chain_same t s (system_back s t same) (is_system_same s t same is) b cs b lt h)
 
+one_to_one_same : (s s' h h' : System) → SameSystem s s' → SameSystem h h' → (p : Plan) → IsOneToOne s h p → IsOneToOne s' h' p
+one_to_one_same s s' h h' same_s same_h p one =
+    let s_bits = same_s.bits in
+    let h_bits = same_h.bits in
+    record {
+      gold_bits = λ i lt. (let le : p.gold i < s.bits = one.gold_bits i lt in omega arith);
+      gate_bits = λ i lt. (let le : p.gate i < h.bits = one.gate_bits i lt in omega arith);
+      gold_once = one.gold_once;
+      gate_once = one.gate_once;
+    }
+
 -- one design
 
 pub back : (d e : Design) → SameDesign d e → SameDesign e d
@@ -192,23 +203,20 @@ module _ (gold gold' gate gate' : Design) (g : SameDesign gold gold') (h : SameD
   pub covers_same : (p : Plan) → Covers gold gate p → Covers gold' gate' p
   covers_same p c =
       let P : Dir → Type 0 = λ x. IsPort x in
-      let gold_bits = g.system.bits in
-      let gate_bits = h.system.bits in
+      let gold_bits = c.one_to_one.gold_bits in
+      let gate_bits = c.one_to_one.gate_bits in
       record {
-        gold_bits = λ i lt. (let le : p.gold i < gold.bits = c.gold_bits i lt in omega arith);
-        gate_bits = λ i lt. (let le : p.gate i < gate.bits = c.gate_bits i lt in omega arith);
-        gold_once = c.gold_once;
-        gate_once = c.gate_once;
-        gold_ports = pairs_ports_same gold gold' gate gate' g h p.pairs p.gold p.gate c.gate_bits c.gold_ports;
-        gate_ports = pairs_ports_same gate gate' gold gold' h g p.pairs p.gate p.gold c.gold_bits c.gate_ports;
-        plain_ports = λ i lt port. c.plain_ports i lt (subst P (sym (g.dirs (p.gold i) (c.gold_bits i lt))) port);
+        one_to_one = one_to_one_same gold.system gold'.system gate.system gate'.system g.system h.system p c.one_to_one;
+        gold_ports = pairs_ports_same gold gold' gate gate' g h p.pairs p.gold p.gate gate_bits c.gold_ports;
+        gate_ports = pairs_ports_same gate gate' gold gold' h g p.pairs p.gate p.gold gold_bits c.gate_ports;
+        plain_ports = λ i lt port. c.plain_ports i lt (subst P (sym (g.dirs (p.gold i) (gold_bits i lt))) port);
         gold_inputs = λ i lt. (
-          (λ e. sym (g.dirs (p.gold i) (c.gold_bits i lt)) ∙ (c.gold_inputs i lt).0 e),
-          (λ e. (c.gold_inputs i lt).1 (g.dirs (p.gold i) (c.gold_bits i lt) ∙ e)),
+          (λ e. sym (g.dirs (p.gold i) (gold_bits i lt)) ∙ (c.gold_inputs i lt).0 e),
+          (λ e. (c.gold_inputs i lt).1 (g.dirs (p.gold i) (gold_bits i lt) ∙ e)),
         );
         gate_inputs = λ i lt. (
-          (λ e. sym (h.dirs (p.gate i) (c.gate_bits i lt)) ∙ (c.gate_inputs i lt).0 e),
-          (λ e. (c.gate_inputs i lt).1 (h.dirs (p.gate i) (c.gate_bits i lt) ∙ e)),
+          (λ e. sym (h.dirs (p.gate i) (gate_bits i lt)) ∙ (c.gate_inputs i lt).0 e),
+          (λ e. (c.gate_inputs i lt).1 (h.dirs (p.gate i) (gate_bits i lt) ∙ e)),
         );
         in_one = c.in_one;
         in_pairs = c.in_pairs;

@@ -58,11 +58,11 @@ module _ (gold gate : Design) (p : Plan) (gold_sound : IsDesign gold) (gate_soun
     mixed_trace inside = is_initial_trace gate.system (is_cut p.pairs p.gate inside) wanted gate_sound.drivers gate_free n
 
     wanted_at : (c i b : ℕ) → i < p.pairs → p.gate i ≡ b → wanted c b ≡ wanted_of c i
-    wanted_at c i b lt e = ap (wanted_of c) (index_is p.pairs p.gate covers.gate_once i b lt e p.pairs (omega arith) lt)
+    wanted_at c i b lt e = ap (wanted_of c) (index_is p.pairs p.gate covers.one_to_one.gate_once i b lt e p.pairs (omega arith) lt)
 
     outside_same : (inside : ℕ → Bool) (c i : ℕ) → c < n → i < p.pairs → inside i ≡ false → v c (p.gold i) ≡ gate_value p i (mixed inside c)
     outside_same inside c i lc li out = signed_on (p.inverted i) (mixed inside c (p.gate i)) (v c (p.gold i))
-        ((mixed_trace inside).held c (p.gate i) lc (covers.gate_bits i li) (inl (cut_from p.pairs p.gate inside i (p.gate i) li refl out)) ∙ wanted_at c i (p.gate i) li refl)
+        ((mixed_trace inside).held c (p.gate i) lc (covers.one_to_one.gate_bits i li) (inl (cut_from p.pairs p.gate inside i (p.gate i) li refl out)) ∙ wanted_at c i (p.gate i) li refl)
 
     cut_run : (inside : ℕ → Bool) → 0 < n → CutRun gold.system gate.system p inside n v (mixed inside)
     cut_run inside pos = record {
@@ -139,7 +139,7 @@ module _ (gold gate : Design) (p : Plan) (gold_sound : IsDesign gold) (gate_soun
                 | inl is ↦ inl (inr ((gate_sound.inputs b lb).1 (ap gate.dir (sym t.2) ∙ (covers.gate_inputs t.0 t.1).0 is)))
                 | inr is_not ↦ (
                     let one = covers.in_one t.0 t.1 is_not in
-                    inr (one.0, one.1, kept_inside p.pairs p.gate covers.gate_once (p.holds one.0) t.0 b t.1 t.2 one.2))
+                    inr (one.0, one.1, kept_inside p.pairs p.gate covers.one_to_one.gate_once (p.holds one.0) t.0 b t.1 t.2 one.2))
               ])
         ]
 
@@ -189,7 +189,7 @@ module _ (gold gate : Design) (p : Plan) (gold_sound : IsDesign gold) (gate_soun
         let t = covers.gate_ports b lb (port_of_input (gate.dir b) dir) in
         let gate_in : gate.dir (p.gate t.0) ≡ is_input = ap gate.dir t.2 ∙ dir in
         let gold_in : gold.dir (p.gold t.0) ≡ is_input = (covers.gold_inputs t.0 t.1).0 ((covers.gate_inputs t.0 t.1).1 gate_in) in
-        let lg : p.gold t.0 < gold.bits = covers.gold_bits t.0 t.1 in
+        let lg : p.gold t.0 < gold.bits = covers.one_to_one.gold_bits t.0 t.1 in
         let P : ℕ → Type 0 = λ x. mixed nothing c x ≡ v c (p.gold t.0) in
         subst P t.2 (sym (plain_same c t.0 lc t.1 t.3))
         ∙ run.inputs c (p.gold t.0) lc lg ((gold_sound.inputs (p.gold t.0) lg).1 gold_in) ∙ ap (given c) t.4
@@ -210,7 +210,7 @@ module _ (gold gate : Design) (p : Plan) (gold_sound : IsDesign gold) (gate_soun
     outputs given n v w hv hw c a b lc la lb da db same =
         let P : Dir → Type 0 = λ x. IsPort x in
         let t = covers.gold_ports a la (subst P (sym da) tt) in
-        let lg : p.gate t.0 < gate.bits = covers.gate_bits t.0 t.1 in
+        let lg : p.gate t.0 < gate.bits = covers.one_to_one.gate_bits t.0 t.1 in
         let here : p.gate t.0 ≡ b = gate_sound.apart (p.gate t.0) b lg lb (t.4 ∙ same) in
         ap (v c) (sym t.2) ∙ plain_same given n v hv c t.0 lc t.1 (subst (λ x. IsPort (gold.dir x)) (sym t.2) (subst P (sym da) tt))
         ∙ (one_run gate gate_sound.drivers gate_free given n).only (mixed given n v hv nothing) w (mixed_run given n v hv) hw c (p.gate t.0) lc lg
@@ -222,7 +222,7 @@ module _ (gold gate : Design) (p : Plan) (gold_sound : IsDesign gold) (gate_soun
           let t = covers.gold_ports a la h in
           let P : ℕ → Type 0 = λ x. IsPort (gold.dir x) in (
             p.gate t.0,
-            covers.gate_bits t.0 t.1,
+            covers.one_to_one.gate_bits t.0 t.1,
             same_dir (gold.dir a) (gate.dir (p.gate t.0)) h t.3
                 (λ e. (covers.gate_inputs t.0 t.1).0 ((covers.gold_inputs t.0 t.1).1 (ap gold.dir t.2 ∙ e)))
                 (λ e. ap gold.dir (sym t.2) ∙ (covers.gold_inputs t.0 t.1).0 ((covers.gate_inputs t.0 t.1).1 e)),
@@ -231,7 +231,7 @@ module _ (gold gate : Design) (p : Plan) (gold_sound : IsDesign gold) (gate_soun
       gate_ports = λ a la h. (
           let t = covers.gate_ports a la h in (
             p.gold t.0,
-            covers.gold_bits t.0 t.1,
+            covers.one_to_one.gold_bits t.0 t.1,
             same_dir (gate.dir a) (gold.dir (p.gold t.0)) h t.3
                 (λ e. (covers.gold_inputs t.0 t.1).0 ((covers.gate_inputs t.0 t.1).1 (ap gate.dir t.2 ∙ e)))
                 (λ e. ap gate.dir (sym t.2) ∙ (covers.gate_inputs t.0 t.1).0 ((covers.gold_inputs t.0 t.1).1 e)),

@@ -9,3 +9,7 @@ pub mod Signs
 pub mod Places
 pub mod Induction
 pub mod Composition
+pub mod Queries
+pub mod Answer
+pub mod Copied
+pub mod Nodes

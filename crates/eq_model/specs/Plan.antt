@@ -3,7 +3,7 @@
 -- equivalence checking based on structural similarities", 2000; A. Kuehlmann and F. Krohm, "Equivalence checking using
 -- cuts and heaps", 1997).
 use Rattle.std.specs.Prelude.{◌≡◌, ℕ, ◌<◌, Bool, true, false, not, ◌↔◌}
-use Rattle.eq_model.specs.System.{Values}
+use Rattle.eq_model.specs.System.{Values, System}
 use Rattle.eq_model.specs.Run.{Design, is_input, IsPort}
 
 -- pairs of a gold bit and a gate bit, by number, and partitions of them. An inverted pair joins a signal with its
@@ -26,17 +26,20 @@ signed true x = not x
 abbrev pub gate_value : Plan → ℕ → Values → Bool
 gate_value p i w = signed (p.inverted i) (w (p.gate i))
 
+-- the pairs join bits of the two systems, and no bit stands in two pairs
+pub record IsOneToOne (gold gate : System) (p : Plan) : Type 0 where
+  pub gold_bits : (i : ℕ) → i < p.pairs → p.gold i < gold.bits
+  pub gate_bits : (i : ℕ) → i < p.pairs → p.gate i < gate.bits
+  pub gold_once : (i j : ℕ) → i < p.pairs → j < p.pairs → p.gold i ≡ p.gold j → i ≡ j
+  pub gate_once : (i j : ℕ) → i < p.pairs → j < p.pairs → p.gate i ≡ p.gate j → i ≡ j
+
 -- each port bit of one design is paired with a port bit of the other of the same name and place
 abbrev pub PairsPorts : Design → Design → ℕ → (ℕ → ℕ) → (ℕ → ℕ) → Type 0
 PairsPorts s t pairs here there = (a : ℕ) → a < s.bits → IsPort (s.dir a) → (i : ℕ) × (i < pairs) × (here i ≡ a) × IsPort (t.dir (there i)) × (t.key (there i) ≡ s.key a)
 
 -- the plan is one of these two designs, and leaves nothing out
 pub record Covers (gold gate : Design) (p : Plan) : Type 0 where
-  -- the pairs join bits of the two designs, and no bit stands in two pairs
-  pub gold_bits : (i : ℕ) → i < p.pairs → p.gold i < gold.bits
-  pub gate_bits : (i : ℕ) → i < p.pairs → p.gate i < gate.bits
-  pub gold_once : (i j : ℕ) → i < p.pairs → j < p.pairs → p.gold i ≡ p.gold j → i ≡ j
-  pub gate_once : (i j : ℕ) → i < p.pairs → j < p.pairs → p.gate i ≡ p.gate j → i ≡ j
+  pub one_to_one : IsOneToOne gold.system gate.system p
   -- all ports are paired by name and place, and by plain pairs
   pub gold_ports : PairsPorts gold gate p.pairs p.gold p.gate
   pub gate_ports : PairsPorts gate gold p.pairs p.gate p.gold

@@ -1,12 +1,17 @@
 //! The laws of systems and designs. Each is the contract of a function that does nothing.
 ghost use Rattle.std.specs.Prelude.{◌≡◌, ℕ, suc, ◌<◌, ◌≤◌, ◌↔◌, Bool, cond};
-ghost use Rattle.eq_model.specs.System.{System, Values, IsSystem, IsLoopFree, Reads, Cycle, IsInput, Begins, Follows, compute, rounds, nothing, HasOneCycle};
+ghost use Rattle.eq_model.specs.System.{System, Values, IsSystem, IsLoopFree, Reads, Solves, Cycle, IsInput, Begins, Follows, compute, rounds, nothing, HasOneCycle};
 ghost use Rattle.eq_model.specs.Run.{Design, IsDesign, Given, Run, HasOneRun, HasPorts, Equivalent};
 ghost use Rattle.eq_model.specs.Frames.{HasOneList};
 ghost use Rattle.eq_model.specs.Combinational.{IsCombinational, SameValues};
-ghost use Rattle.eq_model.specs.Agreement.{SameDesign};
-ghost use Rattle.eq_model.specs.Plan.{Plan, Covers};
+ghost use Rattle.eq_model.specs.Agreement.{SameSystem, SameDesign};
+ghost use Rattle.eq_model.specs.Plan.{Plan, IsOneToOne, Covers};
 ghost use Rattle.eq_model.specs.Cut.{Base, Step, Never};
+ghost use Rattle.eq_model.specs.Kind.{Kind, IsKind};
+ghost use Rattle.eq_model.specs.Part.{Part, IsPart, PartRun, PartBase, PartStep};
+ghost use Rattle.eq_model.specs.Denotes.{Denotes};
+ghost use Rattle.eq_model.specs.Copying.{Copying};
+ghost use Rattle.eq_model.specs.Graph.{IsGraphOf, on_nodes};
 
 /// One cycle: where the inputs, the registers and any further bits are given values, exactly one list of values meets
 /// the other drivers.
@@ -83,8 +88,59 @@ pub fn all_proved()
         (Step gold.system gate.system p (p.holds q) k → ⊥)) → Equivalent gold gate }
 {}
 
-/// Designs that agree may stand for one another in an equivalence.
+/// k-induction has one answer at most, on a partition and on a part.
+pub fn one_kind()
+    ensures partition { (gold gate : System) (p : Plan) (inside : ℕ → Bool) (depth : ℕ) (x y : Kind) →
+        IsKind (Base gold gate p inside) (Step gold gate p inside) depth x → IsKind (Base gold gate p inside) (Step gold gate p inside) depth y → x ≡ y }
+    ensures part { (t : Part) (depth : ℕ) (x y : Kind) → IsKind (PartBase t) (PartStep t) depth x → IsKind (PartBase t) (PartStep t) depth y → x ≡ y }
+{}
+
+/// A part that denotes a partition has the partition's queries, and its answer of k-induction at each depth.
+pub fn queries()
+    ensures base { (gold gate : System) (p : Plan) (inside : ℕ → Bool) (t : Part) → Denotes gold gate p inside t → (k : ℕ) → 1 ≤ k →
+        (Base gold gate p inside k ↔ PartBase t k) }
+    ensures step { (gold gate : System) (p : Plan) (inside : ℕ → Bool) (t : Part) → Denotes gold gate p inside t → (k : ℕ) →
+        (Step gold gate p inside k ↔ PartStep t k) }
+    ensures kind { (gold gate : System) (p : Plan) (inside : ℕ → Bool) (t : Part) → Denotes gold gate p inside t → (depth : ℕ) (x : Kind) →
+        (IsKind (Base gold gate p inside) (Step gold gate p inside) depth x ↔ IsKind (PartBase t) (PartStep t) depth x) }
+{}
+
+/// Values that solve a part's nodes are those of a run of the part, for some inputs.
+pub fn solved()
+    ensures { (t : Part) → IsPart t → (n : ℕ) (x : ℕ → Values) → Solves t.system nothing n x → (given : ℕ → ℕ → Bool) × PartRun t given n x }
+{}
+
+/// A part into which both sides are copied node for node denotes the partition.
+pub fn copying()
+    ensures { (gold gate : System) (p : Plan) (inside : ℕ → Bool) (t : Part) → IsPart t → IsSystem gold → IsSystem gate → IsLoopFree gold → IsLoopFree gate →
+        IsOneToOne gold gate p → Copying gold gate p inside t → Denotes gold gate p inside t }
+{}
+
+/// What denotes a partition of two graphs denotes the partition of the systems that they follow.
+pub fn graphs()
+    ensures { (gold gate gold_graph gate_graph : System) (own_gold own_gate : ℕ → ℕ) →
+        IsGraphOf gold gold_graph own_gold → IsGraphOf gate gate_graph own_gate → IsSystem gold → IsSystem gate →
+        IsSystem gold_graph → IsSystem gate_graph → IsLoopFree gold_graph → IsLoopFree gate_graph →
+        (p : Plan) (inside : ℕ → Bool) → IsOneToOne gold gate p →
+        (t : Part) → Denotes gold_graph gate_graph (on_nodes own_gold own_gate p) inside t → Denotes gold gate p inside t }
+{}
+
+/// Designs that agree may stand for one another: in the premises of the laws, in plans, and in all that is asked of partitions.
 pub fn agreement()
-    ensures { (gold gate other_gold other_gate : Design) → SameDesign gold other_gold → SameDesign gate other_gate →
+    ensures symmetric { (d e : Design) → SameDesign d e → SameDesign e d }
+    ensures design { (d e : Design) → SameDesign d e → IsDesign d → IsDesign e }
+    ensures loop_free { (d e : Design) → SameDesign d e → IsDesign d → IsLoopFree d.system → IsLoopFree e.system }
+    ensures run { (d e : Design) → SameDesign d e → (given : Given) (n : ℕ) (v : ℕ → Values) → Run d given n v → Run e given n v }
+    ensures equivalent { (gold gate other_gold other_gate : Design) → SameDesign gold other_gold → SameDesign gate other_gate →
         Equivalent gold gate → Equivalent other_gold other_gate }
+    ensures covers { (gold gate other_gold other_gate : Design) → SameDesign gold other_gold → SameDesign gate other_gate →
+        (p : Plan) → Covers gold gate p → Covers other_gold other_gate p }
+    ensures base { (s h s' h' : System) → SameSystem s s' → SameSystem h h' →
+        (p : Plan) (inside : ℕ → Bool) (k : ℕ) → Base s h p inside k → Base s' h' p inside k }
+    ensures step { (s h s' h' : System) → SameSystem s s' → SameSystem h h' →
+        (p : Plan) (inside : ℕ → Bool) (k : ℕ) → Step s h p inside k → Step s' h' p inside k }
+    ensures never { (s h s' h' : System) → SameSystem s s' → SameSystem h h' →
+        (p : Plan) (inside : ℕ → Bool) → Never s h p inside → Never s' h' p inside }
+    ensures denotes { (s h s' h' : System) → SameSystem s s' → SameSystem h h' →
+        (p : Plan) (inside : ℕ → Bool) (t : Part) → Denotes s h p inside t → Denotes s' h' p inside t }
 {}
