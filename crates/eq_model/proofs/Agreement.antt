@@ -1,5 +1,5 @@
 -- Designs that agree have the same runs and the same cut runs, and may stand for one another.
-use Rattle.std.proofs.Common.{ℕ, suc, ◌<◌, Bool, List, [], ◌∷◌, Contains, arith, sym, ap, subst, ◌∙◌}
+use Rattle.std.proofs.Common.{ℕ, suc, ◌<◌, Bool, List, [], ◌∷◌, Contains, arith, sym, ap, subst, ◌∙◌, ◌↔◌}
 use Rattle.eq_model.specs.System.{Values, Expr, Driver, input, undriven, equation, register, System, IsExpr, IsDriver, IsSystem, IsInput, IsLoopFree, IsChain, reads_now, Meets, Begins, Follows, Solves, IsInitial, nothing}
 use Rattle.eq_model.specs.Run.{Dir, IsPort, Given, Design, IsDesign, Run, HasOneRun, HasPorts, SameOutputs, Equivalent}
 use Rattle.eq_model.specs.Agreement.{SameExpr, SameDriver, SameSystem, SameDesign}
@@ -225,48 +225,52 @@ module _ (gold gold' gate gate' : Design) (g : SameDesign gold gold') (h : SameD
 
 -- two systems and a partition
 
-module _ (p : Plan) (inside : ℕ → Bool) where
-  module _ (s s' h h' : System) (same_s : SameSystem s s') (same_h : SameSystem h h') where
-    pub cut_run_same : (n : ℕ) (v w : ℕ → Values) → CutRun s h p inside n v w → CutRun s' h' p inside n v w
-    cut_run_same n v w run = record {
-      some = run.some;
-      gold_solves = solves_same s s' same_s (is_cut p.pairs p.gold inside) n v run.gold_solves;
-      gate_solves = solves_same h h' same_h (is_cut p.pairs p.gate inside) n w run.gate_solves;
-      equal = run.equal;
-    }
+module _ (p : Plan) (inside : ℕ → Bool) (s s' h h' : System) (same_s : SameSystem s s') (same_h : SameSystem h h') where
+  cut_run_same : (n : ℕ) (v w : ℕ → Values) → CutRun s h p inside n v w → CutRun s' h' p inside n v w
+  cut_run_same n v w run = record {
+    some = run.some;
+    gold_solves = solves_same s s' same_s (is_cut p.pairs p.gold inside) n v run.gold_solves;
+    gate_solves = solves_same h h' same_h (is_cut p.pairs p.gate inside) n w run.gate_solves;
+    equal = run.equal;
+  }
 
-    pub from_initial_same : (v w : ℕ → Values) → IsFromInitial s h p inside v w → IsFromInitial s' h' p inside v w
-    from_initial_same v w begins = record {
-      gold_begins = initial_same s s' same_s (is_cut p.pairs p.gold inside) (v 0) begins.gold_begins;
-      gate_begins = initial_same h h' same_h (is_cut p.pairs p.gate inside) (w 0) begins.gate_begins;
-    }
+  from_initial_same : (v w : ℕ → Values) → IsFromInitial s h p inside v w → IsFromInitial s' h' p inside v w
+  from_initial_same v w begins = record {
+    gold_begins = initial_same s s' same_s (is_cut p.pairs p.gold inside) (v 0) begins.gold_begins;
+    gate_begins = initial_same h h' same_h (is_cut p.pairs p.gate inside) (w 0) begins.gate_begins;
+  }
 
-    pub base_same : (k : ℕ) → Base s h p inside k → Base s' h' p inside k
-    base_same k b = record { v = b.v; w = b.w; run = cut_run_same k b.v b.w b.run; initial = from_initial_same b.v b.w b.initial; differ = b.differ }
+  base_on : (k : ℕ) → Base s h p inside k → Base s' h' p inside k
+  base_on k b = record { v = b.v; w = b.w; run = cut_run_same k b.v b.w b.run; initial = from_initial_same b.v b.w b.initial; differ = b.differ }
 
-    pub step_same : (k : ℕ) → Step s h p inside k → Step s' h' p inside k
-    step_same k b = record { v = b.v; w = b.w; run = cut_run_same (suc k) b.v b.w b.run; same = b.same; differ = b.differ }
+  step_on : (k : ℕ) → Step s h p inside k → Step s' h' p inside k
+  step_on k b = record { v = b.v; w = b.w; run = cut_run_same (suc k) b.v b.w b.run; same = b.same; differ = b.differ }
 
-  module _ (s s' h h' : System) (same_s : SameSystem s s') (same_h : SameSystem h h') where
-    cut_run_back : (n : ℕ) (v w : ℕ → Values) → CutRun s' h' p inside n v w → CutRun s h p inside n v w
-    cut_run_back = cut_run_same s' s h' h (system_back s s' same_s) (system_back h h' same_h)
+module _ (s s' h h' : System) (same_s : SameSystem s s') (same_h : SameSystem h h') (p : Plan) (inside : ℕ → Bool) where
+  cut_run_back : (n : ℕ) (v w : ℕ → Values) → CutRun s' h' p inside n v w → CutRun s h p inside n v w
+  cut_run_back = cut_run_same p inside s' s h' h (system_back s s' same_s) (system_back h h' same_h)
 
-    from_initial_back : (v w : ℕ → Values) → IsFromInitial s' h' p inside v w → IsFromInitial s h p inside v w
-    from_initial_back = from_initial_same s' s h' h (system_back s s' same_s) (system_back h h' same_h)
+  from_initial_back : (v w : ℕ → Values) → IsFromInitial s' h' p inside v w → IsFromInitial s h p inside v w
+  from_initial_back = from_initial_same p inside s' s h' h (system_back s s' same_s) (system_back h h' same_h)
 
-    pub never_same : Never s h p inside → Never s' h' p inside
-    never_same never n v w run begins = never n v w (cut_run_back n v w run) (from_initial_back v w begins)
+  pub base_same : (k : ℕ) → Base s h p inside k ↔ Base s' h' p inside k
+  base_same k = (base_on p inside s s' h h' same_s same_h k, base_on p inside s' s h' h (system_back s s' same_s) (system_back h h' same_h) k)
 
-    pub denotes_same : (t : Part) → Denotes s h p inside t → Denotes s' h' p inside t
-    denotes_same t d = record {
-      pinout = d.pinout;
-      part_run = λ n v w run. d.part_run n v w (cut_run_back n v w run);
-      cut_run = λ n given x pos run. (
-          let r = d.cut_run n given x pos run in
-          (r.0, r.1, cut_run_same s s' h h' same_s same_h n r.0 r.1 r.2, r.3));
-      part_run_initial = λ n v w run begins. d.part_run_initial n v w (cut_run_back n v w run) (from_initial_back v w begins);
-      cut_run_initial = λ n given x pos run begins. (
-          let r = d.cut_run_initial n given x pos run begins in
-          (r.0, r.1, cut_run_same s s' h h' same_s same_h n r.0 r.1 r.2, from_initial_same s s' h h' same_s same_h r.0 r.1 r.3, r.4));
-      trim = d.trim;
-    }
+  pub step_same : (k : ℕ) → Step s h p inside k ↔ Step s' h' p inside k
+  step_same k = (step_on p inside s s' h h' same_s same_h k, step_on p inside s' s h' h (system_back s s' same_s) (system_back h h' same_h) k)
+
+  pub never_on : Never s h p inside → Never s' h' p inside
+  never_on never n v w run begins = never n v w (cut_run_back n v w run) (from_initial_back v w begins)
+
+  pub denotes_on : (t : Part) → Denotes s h p inside t → Denotes s' h' p inside t
+  denotes_on t d = record {
+    pinout = d.pinout;
+    part_run = λ n v w run. d.part_run n v w (cut_run_back n v w run);
+    cut_run = λ n given x pos run.
+        (let r = d.cut_run n given x pos run in (r.0, r.1, cut_run_same p inside s s' h h' same_s same_h n r.0 r.1 r.2, r.3));
+    part_run_initial = λ n v w run begins. d.part_run_initial n v w (cut_run_back n v w run) (from_initial_back v w begins);
+    cut_run_initial = λ n given x pos run begins. (
+        let r = d.cut_run_initial n given x pos run begins in
+        (r.0, r.1, cut_run_same p inside s s' h h' same_s same_h n r.0 r.1 r.2, from_initial_same p inside s s' h h' same_s same_h r.0 r.1 r.3, r.4));
+    trim = d.trim;
+  }

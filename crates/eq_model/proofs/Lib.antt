@@ -13,3 +13,8 @@ pub mod Queries
 pub mod Answer
 pub mod Copied
 pub mod Nodes
+pub mod Tables
+pub mod Witness
+pub mod GateTrials
+pub mod RegisterTrials
+pub mod PartTrials

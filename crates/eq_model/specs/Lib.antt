@@ -10,3 +10,5 @@ pub mod Part
 pub mod Denotes
 pub mod Copying
 pub mod Graph
+pub mod Table
+pub mod Examples

@@ -128,6 +128,7 @@ pub fn graphs()
 /// Designs that agree may stand for one another: in the premises of the laws, in plans, and in all that is asked of partitions.
 pub fn agreement()
     ensures symmetric { (d e : Design) → SameDesign d e → SameDesign e d }
+    ensures symmetric_system { (s t : System) → SameSystem s t → SameSystem t s }
     ensures design { (d e : Design) → SameDesign d e → IsDesign d → IsDesign e }
     ensures loop_free { (d e : Design) → SameDesign d e → IsDesign d → IsLoopFree d.system → IsLoopFree e.system }
     ensures run { (d e : Design) → SameDesign d e → (given : Given) (n : ℕ) (v : ℕ → Values) → Run d given n v → Run e given n v }
@@ -135,12 +136,14 @@ pub fn agreement()
         Equivalent gold gate → Equivalent other_gold other_gate }
     ensures covers { (gold gate other_gold other_gate : Design) → SameDesign gold other_gold → SameDesign gate other_gate →
         (p : Plan) → Covers gold gate p → Covers other_gold other_gate p }
-    ensures base { (s h s' h' : System) → SameSystem s s' → SameSystem h h' →
-        (p : Plan) (inside : ℕ → Bool) (k : ℕ) → Base s h p inside k → Base s' h' p inside k }
-    ensures step { (s h s' h' : System) → SameSystem s s' → SameSystem h h' →
-        (p : Plan) (inside : ℕ → Bool) (k : ℕ) → Step s h p inside k → Step s' h' p inside k }
-    ensures never { (s h s' h' : System) → SameSystem s s' → SameSystem h h' →
+    ensures base { (s s' h h' : System) → SameSystem s s' → SameSystem h h' →
+        (p : Plan) (inside : ℕ → Bool) (k : ℕ) → (Base s h p inside k ↔ Base s' h' p inside k) }
+    ensures step { (s s' h h' : System) → SameSystem s s' → SameSystem h h' →
+        (p : Plan) (inside : ℕ → Bool) (k : ℕ) → (Step s h p inside k ↔ Step s' h' p inside k) }
+    ensures never { (s s' h h' : System) → SameSystem s s' → SameSystem h h' →
         (p : Plan) (inside : ℕ → Bool) → Never s h p inside → Never s' h' p inside }
-    ensures denotes { (s h s' h' : System) → SameSystem s s' → SameSystem h h' →
+    ensures kind { (s s' h h' : System) → SameSystem s s' → SameSystem h h' → (p : Plan) (inside : ℕ → Bool) (depth : ℕ) (x : Kind) →
+        (IsKind (Base s h p inside) (Step s h p inside) depth x ↔ IsKind (Base s' h' p inside) (Step s' h' p inside) depth x) }
+    ensures denotes { (s s' h h' : System) → SameSystem s s' → SameSystem h h' →
         (p : Plan) (inside : ℕ → Bool) (t : Part) → Denotes s h p inside t → Denotes s' h' p inside t }
 {}

@@ -3,4 +3,5 @@
 //! are the laws.
 #![tactic(auto)]
 
+pub mod examples;
 pub mod laws;

@@ -1,8 +1,13 @@
-use Rattle.eq_model.proofs.Agreement.{back, is_design_same, loop_free_same, run_same, equivalent_same, covers_same, base_same, step_same, never_same, denotes_same}
+use Rattle.eq_model.specs.Cut.{Base, Step}
+use Rattle.eq_model.proofs.Agreement.{back, system_back, is_design_same, loop_free_same, run_same, equivalent_same, covers_same, base_same, step_same, never_on, denotes_on}
+use Rattle.eq_model.proofs.Answer.{same_kind}
 use Rattle.eq_model.proofs.laws.agreement.Goals as goal
 
 pub returns-clause-symmetric : goal.returns-clause-symmetric
 returns-clause-symmetric c = back
+
+pub returns-clause-symmetric_system : goal.returns-clause-symmetric_system
+returns-clause-symmetric_system c = system_back
 
 pub returns-clause-design : goal.returns-clause-design
 returns-clause-design c = is_design_same
@@ -20,13 +25,18 @@ pub returns-clause-covers : goal.returns-clause-covers
 returns-clause-covers c = λ gold gate other_gold other_gate g h. covers_same gold other_gold gate other_gate g h
 
 pub returns-clause-base : goal.returns-clause-base
-returns-clause-base c = λ s h s' h' same_s same_h p inside. base_same p inside s s' h h' same_s same_h
+returns-clause-base c = base_same
 
 pub returns-clause-step : goal.returns-clause-step
-returns-clause-step c = λ s h s' h' same_s same_h p inside. step_same p inside s s' h h' same_s same_h
+returns-clause-step c = step_same
 
 pub returns-clause-never : goal.returns-clause-never
-returns-clause-never c = λ s h s' h' same_s same_h p inside. never_same p inside s s' h h' same_s same_h
+returns-clause-never c = never_on
+
+pub returns-clause-kind : goal.returns-clause-kind
+returns-clause-kind c = λ s s' h h' same_s same_h p inside depth x.
+    same_kind (Base s h p inside) (Step s h p inside) (Base s' h' p inside) (Step s' h' p inside)
+    (λ k pos. base_same s s' h h' same_s same_h p inside k) (step_same s s' h h' same_s same_h p inside) depth x
 
 pub returns-clause-denotes : goal.returns-clause-denotes
-returns-clause-denotes c = λ s h s' h' same_s same_h p inside. denotes_same p inside s s' h h' same_s same_h
+returns-clause-denotes c = denotes_on

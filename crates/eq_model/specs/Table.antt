@@ -1,0 +1,115 @@
+-- Small designs written as tables, for examples: one signal of one bit a line, known by its number.
+use Rattle.std.specs.Prelude.{ℕ, suc, Bool, true, false, not, ◌&&◌, ◌||◌, ◌==◌, List, [], ◌∷◌, ◌++◌, length, slice_index_or, None}
+use Rattle.std.specs.List.{list_any}
+use Rattle.eq_model.specs.System.{Values, Expr, Driver, input, equation, register}
+use Rattle.eq_model.specs.Run.{Dir, inner, is_input, is_output, NetName, Design}
+use Rattle.eq_model.specs.Plan.{Plan}
+
+-- a circuit of gates over the signals: the constant 0, a signal, and gates
+pub data Gate : Type 0 where
+  low : Gate
+  wire : ℕ → Gate
+  inverter : Gate → Gate
+  and_gate : Gate → Gate → Gate
+  or_gate : Gate → Gate → Gate
+  xor_gate : Gate → Gate → Gate
+
+-- the signals that a circuit reads
+abbrev pub reads_of : Gate → List ℕ
+reads_of low = []
+reads_of (wire b) = b ∷ []
+reads_of (inverter g) = reads_of g
+reads_of (and_gate g h) = reads_of g ++ reads_of h
+reads_of (or_gate g h) = reads_of g ++ reads_of h
+reads_of (xor_gate g h) = reads_of g ++ reads_of h
+
+-- exclusive or
+abbrev pub exclusive_or : Bool → Bool → Bool
+exclusive_or true b = not b
+exclusive_or false b = b
+
+-- a circuit's value for values of the signals
+abbrev pub value_of : Gate → Values → Bool
+value_of low v = false
+value_of (wire b) v = v b
+value_of (inverter g) v = not (value_of g v)
+value_of (and_gate g h) v = value_of g v && value_of h v
+value_of (or_gate g h) v = value_of g v || value_of h v
+value_of (xor_gate g h) v = exclusive_or (value_of g v) (value_of h v)
+
+abbrev pub expr_of : Gate → Expr
+expr_of g = record { reads = reads_of g; value = value_of g }
+
+-- a line of a table
+pub data Signal : Type 0 where
+  input_port : Signal
+  output_port : Gate → Signal
+  inner_wire : Gate → Signal
+  inner_register : Bool → Gate → Signal
+
+abbrev pub dir_of : Signal → Dir
+dir_of input_port = is_input
+dir_of (output_port g) = is_output
+dir_of (inner_wire g) = inner
+dir_of (inner_register init g) = inner
+
+abbrev pub driver_of : Signal → Driver
+driver_of input_port = input
+driver_of (output_port g) = equation (expr_of g)
+driver_of (inner_wire g) = equation (expr_of g)
+driver_of (inner_register init g) = register init (expr_of g)
+
+abbrev pub signal_at : List Signal → ℕ → Signal
+signal_at lines b = slice_index_or lines b (inner_wire low)
+
+-- whether a line is a port's
+abbrev pub is_port : Signal → Bool
+is_port input_port = true
+is_port (output_port g) = true
+is_port (inner_wire g) = false
+is_port (inner_register init g) = false
+
+-- the names of the ports, the first line having number k
+abbrev pub port_names : ℕ → List Signal → List NetName
+port_names k [] = []
+port_names k (input_port ∷ lines) = (k ∷ []) ∷ port_names (suc k) lines
+port_names k (output_port g ∷ lines) = (k ∷ []) ∷ port_names (suc k) lines
+port_names k (inner_wire g ∷ lines) = port_names (suc k) lines
+port_names k (inner_register init g ∷ lines) = port_names (suc k) lines
+
+-- the design of a table. A signal's name is its number
+abbrev pub design : List Signal → Design
+design lines = record {
+  system = record { bits = length lines; driver = λ b. driver_of (signal_at lines b) };
+  key = λ b. (b ∷ [], 0);
+  dir = λ b. dir_of (signal_at lines b);
+  range = λ b. None;
+  automatic = λ b. false;
+  ports = port_names 0 lines;
+  clock = None;
+  copy_of = λ b. None;
+}
+
+-- whether a line is an input port's
+abbrev pub is_input_port : Signal → Bool
+is_input_port input_port = true
+is_input_port (output_port g) = false
+is_input_port (inner_wire g) = false
+is_input_port (inner_register init g) = false
+
+-- the plan that pairs the first n signals of two tables, each with that of its number, with the partitions given by lists
+-- of numbers
+abbrev pub plan_of : List Signal → ℕ → (ℕ → Bool) → List (List ℕ) → Plan
+plan_of lines n inverted parts = record {
+  pairs = n;
+  gold = λ i. i;
+  gate = λ i. i;
+  inverted = inverted;
+  input = λ i. is_input_port (signal_at lines i);
+  parts = length parts;
+  holds = λ q i. list_any (λ j. j == i) (slice_index_or parts q []);
+}
+
+-- all pairs are plain
+abbrev pub plain : ℕ → Bool
+plain i = false
