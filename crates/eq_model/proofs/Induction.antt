@@ -4,6 +4,7 @@ use Rattle.std.proofs.lemmas.Bool.{cases_lt}
 use Rattle.eq_model.specs.System.{Values, System, Solves, Follows}
 use Rattle.eq_model.specs.Plan.{Plan, gate_value}
 use Rattle.eq_model.specs.Cut.{CutRun, IsFromInitial, Differ, Same, Base, Step, Never, is_cut}
+use Rattle.eq_model.proofs.Prefix.{front}
 
 pub stable : (x y : Bool) → (x ≢ y → ⊥) → x ≡ y
 stable true true h = refl
@@ -22,13 +23,6 @@ later s cut n v h d m le = record {
       let e : d + suc c ≡ suc (d + c) = omega arith in
       let P : ℕ → Type 0 = λ x. Follows (s.driver b) (v (d + c)) (v x b) in
       subst P (sym e) (h.next (d + c) b (omega arith) bit kept);
-}
-
--- the first m cycles
-pub front : (s : System) (cut : ℕ → Bool) (n : ℕ) (v : ℕ → Values) → Solves s cut n v → (m : ℕ) → m ≤ n → Solves s cut m v
-front s cut n v h m le = record {
-  now = λ c b lt bit kept. h.now c b (omega arith) bit kept;
-  next = λ c b lt bit kept. h.next c b (omega arith) bit kept;
 }
 
 module _ (gold gate : System) (p : Plan) (inside : ℕ → Bool) where

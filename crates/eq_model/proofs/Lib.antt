@@ -7,6 +7,7 @@ pub mod Agreement
 pub mod Combinational
 pub mod Signs
 pub mod Places
+pub mod Prefix
 pub mod Induction
 pub mod Composition
 pub mod Queries

@@ -25,7 +25,7 @@ count = (design counter).system
 abbrev silent : System
 silent = (design silence).system
 
-counter_free : IsLoopFree count
+pub counter_free : IsLoopFree count
 counter_free = design_is_free counter (1 ∷ 0 ∷ 0 ∷ []) refl refl
 
 silence_free : IsLoopFree silent

@@ -50,8 +50,9 @@ pub fn pair_left_out()
     ensures uncovered { Covers (design reads_inner) (design reads_inverted) inner_left_out → ⊥ }
 {}
 
-/// A counter against 0 differs first in cycle 3, and no depth below 3 sees it.
+/// A counter against 0 differs first in cycle 3, and no depth below 3 sees it. Its registers read themselves, which is no loop.
 pub fn late_difference()
+    ensures acyclic { IsLoopFree (design counter).system }
     ensures fails { (depth : ℕ) → 3 ≤ depth →
         IsKind (Base (design counter).system (design silence).system output_only (output_only.holds 0))
         (Step (design counter).system (design silence).system output_only (output_only.holds 0)) depth (fail 3) }

@@ -1,7 +1,7 @@
 //! The laws of systems and designs. Each is the contract of a function that does nothing.
 ghost use Rattle.std.specs.Prelude.{◌≡◌, ℕ, suc, ◌<◌, ◌≤◌, ◌↔◌, Bool, cond};
 ghost use Rattle.eq_model.specs.System.{System, Values, IsSystem, IsLoopFree, Reads, Solves, Cycle, IsInput, Begins, Follows, compute, rounds, nothing, HasOneCycle};
-ghost use Rattle.eq_model.specs.Run.{Design, IsDesign, Given, Run, HasOneRun, HasPorts, Equivalent};
+ghost use Rattle.eq_model.specs.Run.{is_output, Design, IsDesign, Given, Run, HasOneRun, HasPorts, SameOutputs, Equivalent};
 ghost use Rattle.eq_model.specs.Frames.{HasOneList};
 ghost use Rattle.eq_model.specs.Combinational.{IsCombinational, SameValues};
 ghost use Rattle.eq_model.specs.Agreement.{SameSystem, SameDesign};
@@ -46,7 +46,16 @@ pub fn one_run()
     ensures { (d : Design) → IsSystem d.system → IsLoopFree d.system → (given : Given) (n : ℕ) → HasOneRun d given n }
 {}
 
-/// The same with a run as a list of frames.
+/// The first cycles of a run are a run. So outputs that are the same in the last cycle of runs of every length are the same
+/// in every cycle.
+pub fn shorter_runs()
+    ensures run { (d : Design) (given : Given) (n : ℕ) (v : ℕ → Values) → Run d given n v → (m : ℕ) → m ≤ n → Run d given m v }
+    ensures last { (gold gate : Design) → ((given : Given) (n : ℕ) (v w : ℕ → Values) → Run gold given (suc n) v → Run gate given (suc n) w →
+        (a b : ℕ) → a < gold.bits → b < gate.bits → gold.dir a ≡ is_output → gate.dir b ≡ is_output → gold.key a ≡ gate.key b → v n a ≡ w n b) →
+        SameOutputs gold gate }
+{}
+
+/// The same as `one_run` with a run as a list of frames.
 pub fn one_list()
     ensures { (d : Design) → IsSystem d.system → IsLoopFree d.system → (given : Given) (n : ℕ) → HasOneList d given n }
 {}

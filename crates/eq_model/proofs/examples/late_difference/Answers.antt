@@ -1,5 +1,8 @@
-use Rattle.eq_model.proofs.RegisterTrials.{counter_fails, counter_deep, counter_differs}
+use Rattle.eq_model.proofs.RegisterTrials.{counter_free, counter_fails, counter_deep, counter_differs}
 use Rattle.eq_model.proofs.examples.late_difference.Goals as goal
+
+pub returns-clause-acyclic : goal.returns-clause-acyclic
+returns-clause-acyclic c = counter_free
 
 pub returns-clause-fails : goal.returns-clause-fails
 returns-clause-fails c = counter_fails
