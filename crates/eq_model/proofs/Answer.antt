@@ -1,7 +1,7 @@
 -- The answer of k-induction.
 use Rattle.std.proofs.Common.{◌≡◌, ℕ, suc, ◌≤◌, refl, arith, ap, sym, subst, ◌↔◌, inl, inr}
-use Rattle.std.proofs.lemmas.Bool.{cases_order}
-use Rattle.eq_model.specs.Kind.{Kind, fail, proved, deep, GoesOn, IsKind}
+use Rattle.std.proofs.lemmas.Bool.{cases_lt, cases_order}
+use Rattle.eq_model.specs.Kind.{Kind, fail, proved, deep, IsProved, GoesOn, IsKind}
 
 module _ (base step : ℕ → Type 0) (d : ℕ) where
   -- two answers that come at places where nothing answered below come at one place
@@ -59,4 +59,14 @@ pub same_kind : (base step base' step' : ℕ → Type 0) → ((k : ℕ) → 1 �
 same_kind base step base' step' same_base same_step depth x = (
   kind_to base step base' step' same_base same_step depth x,
   kind_to base' step' base step (λ k pos. ((same_base k pos).1, (same_base k pos).0)) (λ k. ((same_step k).1, (same_step k).0)) depth x,
+)
+
+-- what is proved up to a depth is proved at the k that it names
+pub from_kind : (base step : ℕ → Type 0) (depth k : ℕ) → IsKind base step depth (proved k) → IsProved base step k
+from_kind base step depth k h = (
+  (λ j lj le. elim (cases_lt j k) [
+    | inl less ↦ (h.2 j lj less).0
+    | inr more ↦ (let e : k ≡ j = omega arith in let P : ℕ → Type 0 = λ m. base m → ⊥ in subst P e h.3)
+  ]),
+  h.4,
 )

@@ -7,6 +7,10 @@ pub data Kind : Type 0 where
   proved : ℕ → Kind
   deep : Kind
 
+-- induction shows at k that there is never a difference: none is reached in 1 to k cycles, and no step of k cycles fails
+abbrev pub IsProved : (ℕ → Type 0) → (ℕ → Type 0) → ℕ → Type 0
+IsProved base step k = ((j : ℕ) → 1 ≤ j → j ≤ k → base j → ⊥) × (step k → ⊥)
+
 -- nothing is answered below k: no difference is reached, and each step can still fail
 abbrev pub GoesOn : (ℕ → Type 0) → (ℕ → Type 0) → ℕ → Type 0
 GoesOn base step k = (j : ℕ) → 1 ≤ j → j < k → (base j → ⊥) × step j

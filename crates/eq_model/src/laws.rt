@@ -7,7 +7,7 @@ ghost use Rattle.eq_model.specs.Combinational.{IsCombinational, SameValues};
 ghost use Rattle.eq_model.specs.Agreement.{SameSystem, SameDesign};
 ghost use Rattle.eq_model.specs.Plan.{Plan, IsOneToOne, Covers};
 ghost use Rattle.eq_model.specs.Cut.{Base, Step, Never};
-ghost use Rattle.eq_model.specs.Kind.{Kind, IsKind};
+ghost use Rattle.eq_model.specs.Kind.{Kind, proved, IsProved, IsKind};
 ghost use Rattle.eq_model.specs.Part.{Part, IsPart, PartRun, PartBase, PartStep};
 ghost use Rattle.eq_model.specs.Denotes.{Denotes};
 ghost use Rattle.eq_model.specs.Copying.{Copying};
@@ -77,10 +77,13 @@ pub fn combinational()
 {}
 
 /// Induction: where no cut run from the initial values differs in its last cycle after 1 to k cycles, and no cut run that
-/// is equal in k cycles differs in the next, no cut run from the initial values ever differs.
+/// is equal in k cycles differs in the next, no cut run from the initial values ever differs. So it is where k-induction
+/// answers proved.
 pub fn induction()
-    ensures { (gold gate : System) (p : Plan) (inside : ℕ → Bool) (k : ℕ) →
-        ((j : ℕ) → 1 ≤ j → j ≤ k → Base gold gate p inside j → ⊥) → (Step gold gate p inside k → ⊥) → Never gold gate p inside }
+    ensures proved { (gold gate : System) (p : Plan) (inside : ℕ → Bool) (k : ℕ) →
+        IsProved (Base gold gate p inside) (Step gold gate p inside) k → Never gold gate p inside }
+    ensures kind { (gold gate : System) (p : Plan) (inside : ℕ → Bool) (depth k : ℕ) →
+        IsKind (Base gold gate p inside) (Step gold gate p inside) depth (proved k) → Never gold gate p inside }
 {}
 
 /// Composition: where the plan covers two designs without a loop, and no partition ever differs, the designs are equivalent.
@@ -93,8 +96,8 @@ pub fn composition()
 /// Both together: where induction proves each partition, at a k of its own, the designs are equivalent.
 pub fn all_proved()
     ensures { (gold gate : Design) (p : Plan) → IsDesign gold → IsDesign gate → IsLoopFree gold.system → IsLoopFree gate.system →
-        Covers gold gate p → ((q : ℕ) → q < p.parts → (k : ℕ) × ((j : ℕ) → 1 ≤ j → j ≤ k → Base gold.system gate.system p (p.holds q) j → ⊥) ×
-        (Step gold.system gate.system p (p.holds q) k → ⊥)) → Equivalent gold gate }
+        Covers gold gate p → ((q : ℕ) → q < p.parts → (k : ℕ) × IsProved (Base gold.system gate.system p (p.holds q)) (Step gold.system gate.system p (p.holds q)) k) →
+        Equivalent gold gate }
 {}
 
 /// k-induction has one answer at most, on a partition and on a part.

@@ -5,4 +5,4 @@ use Rattle.eq_model.proofs.laws.all_proved.Goals as goal
 pub returns : goal.returns
 returns c = λ gold gate p gold_sound gate_sound gold_free gate_free covers rows.
     equivalent gold gate p gold_sound gate_sound gate_free covers
-    (λ q lq. let r = rows q lq in never gold.system gate.system p (p.holds q) r.0 r.1 r.2) gold_free
+    (λ q lq. let r = rows q lq in never gold.system gate.system p (p.holds q) r.0 r.1.0 r.1.1) gold_free
