@@ -1,4 +1,4 @@
--- Designs without registers are equivalent exactly where their outputs have the same values in one cycle
+-- Designs without registers are equivalent exactly where their outputs have the same values in one cycle.
 use Rattle.std.proofs.Common.{ℕ, ◌<◌, Bool, arith, inl, inr, ◌↔◌}
 use Rattle.eq_model.specs.System.{Values, Driver, input, undriven, equation, register, IsSystem, IsLoopFree, IsInput, IsHeld, Begins, Cycle, nothing}
 use Rattle.eq_model.specs.Run.{Design, Key, Given, Run, HasPorts, SameOutputs, Equivalent}

@@ -1,7 +1,8 @@
 -- Examples without registers.
-use Rattle.std.proofs.Common.{◌≡◌, ◌≢◌, ℕ, zero, suc, ◌<◌, Bool, true, false, not, ◌&&◌, ◌||◌, ◌==◌, [], ◌∷◌, slice_index_or, refl, arith, sym, ◌∙◌, ◌⊎◌, inl, inr}
+use Rattle.std.proofs.Common.{◌≡◌, ◌≢◌, ℕ, zero, suc, ◌<◌, Bool, true, false, not, ◌&&◌, ◌||◌, ◌==◌, [], ◌∷◌, slice_index_or, Contains, refl, arith, sym, ◌∙◌, ◌⊎◌, inl, inr}
 use Rattle.eq_model.specs.System.{Values, IsHeld, Reads, IsLoopFree, Cycle, HasOneCycle, Meets, nothing}
 use Rattle.eq_model.specs.Run.{Given, Equivalent}
+use Rattle.eq_model.specs.Agreement.{SameDriver, SameDesign}
 use Rattle.eq_model.specs.Plan.{Plan, Covers, gate_value}
 use Rattle.eq_model.specs.Cut.{Base, Never}
 use Rattle.eq_model.specs.Table.{design, plan_of, plain}
@@ -45,6 +46,31 @@ conjunctions_never (suc q) lq = absurd (omega arith)
 pub conjunctions_equivalent : Equivalent (design conjunction) (design de_morgan)
 conjunctions_equivalent = equivalent (design conjunction) (design de_morgan) conjunctions (design_is conjunction refl) (design_is de_morgan refl) de_morgan_free
     (plan_covers conjunction de_morgan 3 plain ((2 ∷ []) ∷ []) complete_conjunctions) conjunctions_never conjunction_free
+
+-- they agree, since they read the same bits and have the same values
+pub conjunctions_agree : SameDesign (design conjunction) (design de_morgan)
+conjunctions_agree = record {
+  system = record { bits = refl; drivers = drivers };
+  keys = λ b lb. refl;
+  dirs = dirs;
+  ranges = λ b lb. refl;
+  automatic = λ b lb. refl;
+  ports = refl;
+  clock = refl;
+  copies = λ b lb. refl;
+}
+  where
+    drivers : (b : ℕ) → b < 3 → SameDriver ((design conjunction).driver b) ((design de_morgan).driver b)
+    drivers zero lb = tt
+    drivers (suc zero) lb = tt
+    drivers (suc (suc zero)) lb = record { reads = λ b. ((λ c. c), (λ c. c)); value = λ v. sym (de_morgan_law (v 0) (v 1)) }
+    drivers (suc (suc (suc b))) lb = absurd (omega arith)
+
+    dirs : (b : ℕ) → b < 3 → (design conjunction).dir b ≡ (design de_morgan).dir b
+    dirs zero lb = refl
+    dirs (suc zero) lb = refl
+    dirs (suc (suc zero)) lb = refl
+    dirs (suc (suc (suc b))) lb = absurd (omega arith)
 
 -- two designs of two functions
 
@@ -114,6 +140,20 @@ apart_never (suc (suc q)) lq = absurd (omega arith)
 
 pub apart_equivalent : Equivalent (design p_reads_q) (design q_reads_p)
 apart_equivalent = equivalent (design p_reads_q) (design q_reads_p) apart (design_is p_reads_q refl) (design_is q_reads_p refl) q_reads_p_free apart_covers apart_never p_reads_q_free
+
+-- p's reads differ, so the designs are equivalent and don't agree
+pub apart_disagree : SameDesign (design p_reads_q) (design q_reads_p) → ⊥
+apart_disagree same = none ((same.system.drivers 1 (omega arith)).reads 2).0
+  where
+    read : Contains {X = ℕ} (0 ∷ 0 ∷ 2 ∷ []) 2
+    read = contains_tail 0 (0 ∷ 2 ∷ []) 2 (contains_tail 0 (2 ∷ []) 2 (contains_head 2 []))
+
+    unread : Contains {X = ℕ} (0 ∷ []) 2 → ⊥
+    unread (zero, lt, e) = (let f : ◌≡◌ {A = ℕ} 0 2 = e in omega arith)
+    unread (suc k, lt, e) = omega arith
+
+    none : (Contains {X = ℕ} (0 ∷ 0 ∷ 2 ∷ []) 2 → Contains {X = ℕ} (0 ∷ []) 2) → ⊥
+    none to = unread (to read)
 
 pub doubled_covers : Covers (design p_reads_q) (design q_reads_p) doubled → ⊥
 doubled_covers covers =

@@ -1,4 +1,4 @@
--- What holds of values holds of others that agree on the bits
+-- What holds of values holds of others that agree on the bits.
 use Rattle.std.proofs.Common.{◌≡◌, ℕ, suc, ◌<◌, Bool, arith, sym, subst, ◌∙◌, inr}
 use Rattle.eq_model.specs.System.{Values, Driver, input, undriven, equation, register, IsSystem, IsDriver, IsHeld, IsInput, Meets, Begins, Follows, Cycle, nothing, Agree}
 use Rattle.eq_model.specs.Run.{Design, Given, Run}

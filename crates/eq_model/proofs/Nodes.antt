@@ -2,7 +2,8 @@
 use Rattle.std.proofs.Common.{◌≡◌, ℕ, suc, ◌<◌, Bool, true, false, ◌==◌, refl, arith, sym, ap, subst, ◌∙◌, inl, inr}
 use Rattle.std.proofs.lemmas.Bool.{cases_Bool, false_from_ne_true}
 use Rattle.std.proofs.lemmas.Bool.Decides.{Decides-eqb}
-use Rattle.eq_model.specs.System.{Values, Driver, input, undriven, equation, register, System, IsSystem, IsDriver, IsHeld, Meets, Begins, Follows, IsLoopFree, Cycle, rounds, Solves, IsInitial}
+use Rattle.eq_model.specs.System.{Values, Driver, input, undriven, equation, register, System, IsSystem, IsDriver, IsHeld, Meets, Begins, Follows, IsLoopFree, IsInput, Cycle, rounds, Solves, IsInitial, nothing}
+use Rattle.eq_model.specs.Run.{Design, Given, Run}
 use Rattle.eq_model.specs.Plan.{Plan, IsOneToOne, signed}
 use Rattle.eq_model.specs.Cut.{is_cut, CutRun, IsFromInitial}
 use Rattle.eq_model.specs.Part.{Part}
@@ -150,6 +151,16 @@ module _ (s g : System) (own : ℕ → ℕ) (graph : IsGraphOf s g own) (cut gcu
               (begins b t.1 (sym (same_cut b t.1) ∙ kept_own))) kept)
           | inr free ↦ free_begins (g.driver m) (lifted 0 m) (graph.others m lm free)
         ]
+
+-- so a run of the nodes is one of the bits
+pub graph_run : (d : Design) (g : System) (own : ℕ → ℕ) → IsGraphOf d.system g own → (given : Given) (n : ℕ) (x : ℕ → Values) →
+    Solves g nothing n x → (0 < n → IsInitial g nothing (x 0)) → ((c b : ℕ) → c < n → b < d.bits → IsInput (d.driver b) → x c (own b) ≡ given c (d.key b)) →
+    Run d given n (λ c b. x c (own b))
+graph_run d g own graph given n x solves begins inputs = record {
+  inputs = inputs;
+  begins = λ pos. down_initial d.system g own graph nothing nothing (λ b lb. refl) (λ m lm free. refl) n x solves (begins pos);
+  solves = down d.system g own graph nothing nothing (λ b lb. refl) (λ m lm free. refl) n x solves;
+}
 
 -- the cut bits of the nodes are the own nodes of the cut bits
 

@@ -8,7 +8,7 @@ use Rattle.eq_model.specs.Copying.{CopiesDriver, is_register, IsSigned, Copies, 
 use Rattle.eq_model.specs.Table.{Signal, input_port, output_port, inner_wire, inner_register, wire, inverter, xor_gate, design}
 use Rattle.eq_model.specs.Examples.{toggle, complement_toggle, complements, output_part, register_part}
 use Rattle.eq_model.proofs.Order.{contains_head, contains_tail}
-use Rattle.eq_model.proofs.Copied.{image_denotes}
+use Rattle.eq_model.proofs.Copied.{copying_denotes}
 use Rattle.eq_model.proofs.Tables.{design_is, design_is_ordered}
 use Rattle.eq_model.proofs.Witness.{one_pair}
 use Rattle.eq_model.proofs.RegisterTrials.{toggle_free, complement_free, complements_cover}
@@ -176,7 +176,7 @@ output_copying = record {
     apart (suc (suc a)) b la lb ha hb reg e = absurd (cc)
 
 pub output_denotes : Denotes plus minus complements output_inside output_part
-output_denotes = image_denotes plus minus complements output_inside output_part output_copying output_is (design_is toggle refl).drivers (design_is complement_toggle refl).drivers
+output_denotes = copying_denotes plus minus complements output_inside output_part output_copying output_is (design_is toggle refl).drivers (design_is complement_toggle refl).drivers
     toggle_free complement_free complements_cover.one_to_one
 
 -- the pair is inside
@@ -343,5 +343,5 @@ register_copying = record {
     apart (suc a) (suc b) la lb ha hb reg e = omega arith
 
 pub register_denotes : Denotes plus minus complements register_inside register_part
-register_denotes = image_denotes plus minus complements register_inside register_part register_copying register_is (design_is toggle refl).drivers (design_is complement_toggle refl).drivers
+register_denotes = copying_denotes plus minus complements register_inside register_part register_copying register_is (design_is toggle refl).drivers (design_is complement_toggle refl).drivers
     toggle_free complement_free complements_cover.one_to_one

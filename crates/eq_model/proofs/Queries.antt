@@ -1,4 +1,4 @@
--- A part that denotes a partition has the partition's queries
+-- A part that denotes a partition has the partition's queries.
 use Rattle.std.proofs.Common.{◌≡◌, ℕ, suc, ◌<◌, ◌-◌, Bool, arith, sym, subst, ◌∙◌, ◌↔◌, ◌==◌, ◌&&◌, true, false, refl, ap}
 use Rattle.std.proofs.lemmas.Bool.{and_parts, and_from}
 use Rattle.std.proofs.lemmas.Bool.Decides.{Decides-eqb}

@@ -1,7 +1,8 @@
 -- Synchronous systems as equations over bits, and what it means to solve them over cycles.
--- A netlist in the two-valued reading of IEEE 1364-2005: continuous assignments (6.1) are equations, nonblocking
--- assignments at one clock edge (9.2.2) are registers. A system is what is elsewhere called a finite-state machine with
--- inputs, or a transition system.
+-- A netlist in a two-valued reading of IEEE 1364-2005: continuous assignments (6.1) are equations, and nonblocking
+-- assignments at the edges of one clock (9.2.2) are registers, which begin at the values of their declarations (6.2.1). A
+-- cycle lies between two edges. A system is what is elsewhere called a finite-state machine with inputs, or a transition
+-- system.
 use Rattle.std.specs.Prelude.{◌≡◌, ℕ, zero, suc, ◌<◌, Bool, true, false, cond, List, [], ◌∷◌, Contains, ◌⊎◌}
 
 -- a value for each bit, as in one cycle
@@ -81,7 +82,8 @@ IsLoopFree s = (b : ℕ) (cs : List ℕ) → b < s.bits → IsChain s b cs b →
 
 -- Drivers as equations
 
--- within a cycle with the values v: the driver allows the value x for its bit. A bit without a driver is 0
+-- within a cycle with the values v: the driver allows the value x for its bit. A bit without a driver is 0, where the
+-- standard has high impedance
 abbrev pub Meets : Driver → Values → Bool → Type 0
 Meets input v x = Unit {0}
 Meets undriven v x = x ≡ false

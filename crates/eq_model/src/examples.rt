@@ -3,6 +3,7 @@
 ghost use Rattle.std.specs.Prelude.{◌≡◌, ℕ, ◌<◌, ◌≤◌};
 ghost use Rattle.eq_model.specs.System.{Values, Reads, IsLoopFree, HasOneCycle, nothing};
 ghost use Rattle.eq_model.specs.Run.{Equivalent};
+ghost use Rattle.eq_model.specs.Agreement.{SameDesign};
 ghost use Rattle.eq_model.specs.Plan.{Covers};
 ghost use Rattle.eq_model.specs.Cut.{Base, Step, Never};
 ghost use Rattle.eq_model.specs.Kind.{IsKind, fail, proved, deep};
@@ -10,8 +11,9 @@ ghost use Rattle.eq_model.specs.Denotes.{Denotes};
 ghost use Rattle.eq_model.specs.Table.{design};
 ghost use Rattle.eq_model.specs.Examples.{conjunction, de_morgan, disjunction, ring, p_reads_q, q_reads_p, apart, doubled, reads_both, reads_inner, reads_inverted, inner_cut, inner_left_out, counter, silence, output_only, gated, gated_silence, ports_only, feedback, toggle, complement_toggle, complements, not_complements, output_part, register_part};
 
-/// `y = a & b` and `y = ~(~a | ~b)` are equivalent; `y = a & b` and `y = a | b` are not.
+/// `y = a & b` and `y = ~(~a | ~b)` agree and are equivalent; `y = a & b` and `y = a | b` are not.
 pub fn two_gates()
+    ensures agree { SameDesign (design conjunction) (design de_morgan) }
     ensures equal { Equivalent (design conjunction) (design de_morgan) }
     ensures unequal { Equivalent (design conjunction) (design disjunction) → ⊥ }
 {}
@@ -22,12 +24,13 @@ pub fn ring_of_wires()
     ensures unsettled { (u : Values) → HasOneCycle (design ring).system nothing u → ⊥ }
 {}
 
-/// Gold's p reads q, and gate's q reads p. Each partition alone is equal, so the designs are equivalent.
+/// Gold's p reads q, and gate's q reads p. Each partition alone is equal, so the designs are equivalent. They don't agree.
 pub fn crossed_reads()
     ensures crossed { Reads (design p_reads_q).system 1 2 × Reads (design q_reads_p).system 2 1 }
     ensures covered { Covers (design p_reads_q) (design q_reads_p) apart }
     ensures never { (q : ℕ) → q < 2 → Never (design p_reads_q).system (design q_reads_p).system apart (apart.holds q) }
     ensures equal { Equivalent (design p_reads_q) (design q_reads_p) }
+    ensures disagree { SameDesign (design p_reads_q) (design q_reads_p) → ⊥ }
 {}
 
 /// A plan with a pair in two partitions doesn't cover.

@@ -1,6 +1,6 @@
 //! The laws of systems and designs. Each is the contract of a function that does nothing.
 ghost use Rattle.std.specs.Prelude.{◌≡◌, ℕ, suc, ◌<◌, ◌≤◌, ◌↔◌, Bool, cond};
-ghost use Rattle.eq_model.specs.System.{System, Values, IsSystem, IsLoopFree, Reads, Solves, Cycle, IsInput, Begins, Follows, compute, rounds, nothing, HasOneCycle};
+ghost use Rattle.eq_model.specs.System.{System, Values, IsSystem, IsLoopFree, Reads, Solves, IsInitial, Cycle, IsInput, Begins, Follows, compute, rounds, nothing, HasOneCycle};
 ghost use Rattle.eq_model.specs.Run.{is_output, Design, IsDesign, Given, Run, HasOneRun, HasPorts, SameOutputs, Equivalent};
 ghost use Rattle.eq_model.specs.Frames.{HasOneList};
 ghost use Rattle.eq_model.specs.Combinational.{IsCombinational, SameValues};
@@ -126,6 +126,13 @@ pub fn solved()
 pub fn copying()
     ensures { (gold gate : System) (p : Plan) (inside : ℕ → Bool) (t : Part) → IsPart t → IsSystem gold → IsSystem gate → IsLoopFree gold → IsLoopFree gate →
         IsOneToOne gold gate p → Copying gold gate p inside t → Denotes gold gate p inside t }
+{}
+
+/// A run of a graph is one of the design that it follows: in each cycle a bit's own node has the bit's value.
+pub fn graph_runs()
+    ensures { (d : Design) (g : System) (own : ℕ → ℕ) → IsGraphOf d.system g own → (given : Given) (n : ℕ) (x : ℕ → Values) →
+        Solves g nothing n x → (0 < n → IsInitial g nothing (x 0)) →
+        ((c b : ℕ) → c < n → b < d.bits → IsInput (d.driver b) → x c (own b) ≡ given c (d.key b)) → Run d given n (λ c b. x c (own b)) }
 {}
 
 /// What denotes a partition of two graphs denotes the partition of the systems that they follow.
