@@ -2,8 +2,12 @@
 use Rattle.std.specs.Prelude.{ℕ, suc, Bool, true, false, not, ◌&&◌, ◌||◌, ◌==◌, List, [], ◌∷◌, ◌++◌, length, slice_index_or, None}
 use Rattle.std.specs.List.{list_any}
 use Rattle.eq_model.specs.System.{Values, Expr, Driver, input, equation, register}
-use Rattle.eq_model.specs.Run.{Dir, inner, is_input, is_output, NetName, Design}
-use Rattle.eq_model.specs.Plan.{Plan}
+use Rattle.eq_model.specs.Run.{Dir, inner, is_input, is_output, NetName, Design, Equivalent}
+use Rattle.eq_model.specs.Plan.{Plan, Covers}
+use Rattle.eq_model.specs.Cut.{Base, Step, Never}
+use Rattle.eq_model.specs.Kind.{Kind, IsKind}
+use Rattle.eq_model.specs.Part.{Part}
+use Rattle.eq_model.specs.Denotes.{Denotes}
 
 -- a circuit of gates over the signals: the constant 0, a signal, and gates
 pub data Gate : Type 0 where
@@ -113,3 +117,28 @@ plan_of lines n inverted parts = record {
 -- all pairs are plain
 abbrev pub plain : ℕ → Bool
 plain i = false
+
+-- the two tables' designs are equivalent
+abbrev pub EquivalentTables : List Signal → List Signal → Type 0
+EquivalentTables gold gate = Equivalent (design gold) (design gate)
+
+-- the plan covers the two tables' designs
+abbrev pub CoversTables : List Signal → List Signal → Plan → Type 0
+CoversTables gold gate p = Covers (design gold) (design gate) p
+
+-- partition q of the plan never differs
+abbrev pub NeverDiffers : List Signal → List Signal → Plan → ℕ → Type 0
+NeverDiffers gold gate p q = Never (design gold).system (design gate).system p (p.holds q)
+
+-- partition q has a difference after k cycles
+abbrev pub DiffersAfter : List Signal → List Signal → Plan → ℕ → ℕ → Type 0
+DiffersAfter gold gate p q k = Base (design gold).system (design gate).system p (p.holds q) k
+
+-- what k-induction answers on partition q up to a depth
+abbrev pub Answers : List Signal → List Signal → Plan → ℕ → ℕ → Kind → Type 0
+Answers gold gate p q depth x =
+    IsKind (Base (design gold).system (design gate).system p (p.holds q)) (Step (design gold).system (design gate).system p (p.holds q)) depth x
+
+-- the part denotes partition q
+abbrev pub DenotesPartition : List Signal → List Signal → Plan → ℕ → Part → Type 0
+DenotesPartition gold gate p q t = Denotes (design gold).system (design gate).system p (p.holds q) t
