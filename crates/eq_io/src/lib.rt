@@ -9,3 +9,6 @@ pub use eq_base::{Bytes, Memory};
 pub use gate::{Gate, NoGate};
 pub use sink::{Sink, SinkErr};
 pub use store::{Got, Store, StoreErr};
+
+#[cfg(test)]
+mod tests;
