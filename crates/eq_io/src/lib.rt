@@ -1,14 +1,16 @@
 //! The outside: where files are read and written, where output goes, and what lets a test watch the workers.
 #![tactic(auto)]
 
+mod call_plan;
 mod gate;
+mod mem_sink;
 mod sink;
 mod store;
+#[cfg(test)]
+mod tests;
 
 pub use eq_base::{Bytes, Memory};
 pub use gate::{Gate, NoGate};
+pub use mem_sink::MemSink;
 pub use sink::{Sink, SinkErr};
 pub use store::{Got, Store, StoreErr};
-
-#[cfg(test)]
-mod tests;
