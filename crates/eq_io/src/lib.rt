@@ -4,6 +4,7 @@
 mod call_plan;
 mod gate;
 mod mem_sink;
+mod mem_store;
 mod sink;
 mod store;
 #[cfg(test)]
@@ -12,5 +13,6 @@ mod tests;
 pub use eq_base::{Bytes, Memory};
 pub use gate::{Gate, NoGate};
 pub use mem_sink::MemSink;
+pub use mem_store::MemStore;
 pub use sink::{Sink, SinkErr};
 pub use store::{Got, Store, StoreErr};
