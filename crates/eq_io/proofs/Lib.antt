@@ -1,1 +1,2 @@
 pub mod FilesInMemory
+pub mod Appending

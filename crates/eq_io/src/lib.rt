@@ -2,17 +2,21 @@
 #![tactic(auto)]
 
 mod call_plan;
+mod dir_store;
 mod gate;
 mod mem_sink;
 mod mem_store;
+mod out_sink;
 mod sink;
 mod store;
 #[cfg(test)]
 mod tests;
 
 pub use eq_base::{Bytes, Memory};
+pub use dir_store::DirStore;
 pub use gate::{Gate, NoGate};
 pub use mem_sink::MemSink;
 pub use mem_store::MemStore;
+pub use out_sink::OutSink;
 pub use sink::{Sink, SinkErr};
 pub use store::{Got, Store, StoreErr};
