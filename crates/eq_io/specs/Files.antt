@@ -1,9 +1,8 @@
 -- What a store holds, and what a read answers of it.
-use Rattle.std.specs.Prelude.{◌≡◌, ℕ, ◌<◌, ◌≤◌, List, length, Option, Some, None}
-
+use Rattle.std.specs.Prelude.{◌≡◌, ◌≢◌, ◌↔◌, ℕ, ◌<◌, ◌≤◌, List, length, Option, Some, None, IsSomeAnd}
 use Rattle.std.specs.Ordering.{nat_cmp}
 use Rattle.std.specs.Cmp.Lexicographic.{slice_cmp}
-use Rattle.std.specs.FinMap.{FinMap, insert, remove}
+use Rattle.std.specs.FinMap.{FinMap, get, insert, remove}
 use Rattle.eq_io.specs.declared.store.Got.{Got}
 use Rattle.eq_io.specs.declared.store.Got.TheVariants.{Absent, TooLong, Held}
 
@@ -26,3 +25,14 @@ IsWithin most _ = Unit {0}
 abbrev pub with_file : List ℕ → Option (List ℕ) → Files → Files
 with_file name (Some bytes) files = insert files name bytes
 with_file name None files = remove files name
+
+-- Absent is answered exactly where nothing has the name, and TooLong exactly where there are more than `most` bytes.
+abbrev pub AnswersExactly : Type 0
+AnswersExactly = (most : ℕ) (held : Option (List ℕ)) (got : Got) → Answers most held got → IsWithin most got
+    → ((got ≡ Absent) ↔ (held ≡ None)) × ((got ≡ TooLong) ↔ IsSomeAnd held (λ bytes. most < length bytes))
+
+-- The name holds what was put there, and every other name what it held.
+abbrev pub ChangesOnlyTheName : Type 0
+ChangesOnlyTheName = (name : List ℕ) (left : Option (List ℕ)) (files : Files)
+    → (get (with_file name left files) name ≡ left)
+    × ((other : List ℕ) → other ≢ name → get (with_file name left files) other ≡ get files other)

@@ -4,6 +4,7 @@
 mod call_plan;
 mod dir_store;
 mod gate;
+pub mod laws;
 mod mem_sink;
 mod mem_store;
 mod out_sink;
