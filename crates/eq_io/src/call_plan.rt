@@ -2,7 +2,8 @@
 ghost use Rattle.std.specs.Prelude.{◌≡◌, IfOk};
 ghost use Rattle.eq_io.specs.Fakes.{no_calls, next_call, next_fails};
 
-use std::alloc::{AllocError, Global};
+use eq_base::Memory;
+use std::alloc::Global;
 use std::marker::Model;
 
 /// Counts calls, and knows the numbers of those that are to fail.
@@ -23,7 +24,7 @@ impl Model for CallPlan {
 }
 
 impl CallPlan {
-    pub(crate) fn new(alloc: Global, failing: &[u64]) -> Result<CallPlan, AllocError>
+    pub(crate) fn new(alloc: Global, failing: &[u64]) -> Result<CallPlan, Memory>
         ensures { IfOk result (λ plan. plan ≡ no_calls failing.now) }
     {
         let failing = Vec::from_slice(alloc, failing)?;

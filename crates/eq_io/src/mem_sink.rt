@@ -4,7 +4,8 @@ ghost use Rattle.eq_io.specs.Fakes.{no_output, next_call, next_fails, one_more};
 
 use crate::call_plan::CallPlan;
 use crate::{Sink, SinkErr};
-use std::alloc::{AllocError, Global};
+use eq_base::Memory;
+use std::alloc::Global;
 use std::marker::Model;
 
 /// Keeps what is put into it. Puts are counted from 1.
@@ -27,7 +28,7 @@ impl Model for MemSink {
 
 impl MemSink {
     /// An empty sink whose puts with these numbers fail.
-    pub fn new(alloc: Global, failing: &[u64]) -> Result<MemSink, AllocError>
+    pub fn new(alloc: Global, failing: &[u64]) -> Result<MemSink, Memory>
         ensures { IfOk result (λ sink. sink ≡ no_output failing.now) }
     {
         let puts = CallPlan::new(alloc, failing)?;
@@ -53,9 +54,15 @@ impl Sink for MemSink {
 
     /// A put that fails adds the first half of the piece, rounded down.
     fn put(&mut self, _alloc: Global, piece: &[u8]) -> Result<(), SinkErr>
-        ensures ok { OnOk result (self.new ≡ record self.old { written = self.old.written ++ piece.now; puts = next_call self.old.puts }) }
-        ensures failed { IsErrOf result SinkErr.Failed → self.new ≡ record { written = self.old.written ++ take (length piece.now / 2) piece.now; puts = next_call self.old.puts; faults = one_more self.old.faults } }
-        ensures memory { IsErrOf result SinkErr.Memory → self.new ≡ record self.old { puts = next_call self.old.puts } }
+        ensures ok { OnOk result (self.new ≡ record self.old {
+            written = self.old.written ++ piece.now;
+            puts = next_call self.old.puts }) }
+        ensures failed { IsErrOf result SinkErr.Failed → self.new ≡ record self.old {
+            written = self.old.written ++ take (length piece.now / 2) piece.now;
+            puts = next_call self.old.puts;
+            faults = one_more self.old.faults } }
+        ensures memory { IsErrOf result SinkErr.Memory
+            → self.new ≡ record self.old { puts = next_call self.old.puts } }
         ensures no_fault { OnOk result (next_fails self.old.puts ≡ false) }
         ensures fault { IsErrOf result SinkErr.Failed → next_fails self.old.puts ≡ true }
         ensures later { self.old.faults ≤ self.new.faults }

@@ -6,8 +6,8 @@ ghost use Rattle.eq_io.specs.Fakes.{files_of, no_files, next_call, next_fails, o
 
 use crate::call_plan::CallPlan;
 use crate::{Got, Store, StoreErr};
-use eq_base::Bytes;
-use std::alloc::{AllocError, Global};
+use eq_base::{Bytes, Memory};
+use std::alloc::Global;
 use std::collections::BTreeMap;
 use std::marker::Model;
 
@@ -28,7 +28,11 @@ impl Model for MemStore {
 
     ghost coded = { files_code };
 
-    ghost view = { λ s. record { files = files_of s.files.entries; reads = s.reads; writes = s.writes; faults = s.faults } };
+    ghost view = { λ s. record {
+        files = files_of s.files.entries;
+        reads = s.reads;
+        writes = s.writes;
+        faults = s.faults } };
 }
 
 // The bytes under the name.
@@ -42,7 +46,7 @@ fn find_file<'a>(files: &'a BTreeMap<String, Bytes>, name: &str) -> Option<&'a [
 }
 
 // What a read answers where the name holds this.
-fn answer(alloc: Global, held: Option<&[u8]>, most: u64) -> Result<Got, AllocError>
+fn answer(alloc: Global, held: Option<&[u8]>, most: u64) -> Result<Got, Memory>
     ensures answer { IfOk result (Answers most (option_copied held.entry)) }
     ensures within { IfOk result (IsWithin most) }
 {
@@ -59,8 +63,9 @@ fn put_file(
     files: &mut BTreeMap<String, Bytes>,
     name: &str,
     bytes: &[u8],
-) -> Result<(), AllocError>
-    ensures ok { OnOk result (files_of files.new.entries ≡ insert (files_of files.old.entries) name.now bytes.now) }
+) -> Result<(), Memory>
+    ensures ok { OnOk result
+        (files_of files.new.entries ≡ insert (files_of files.old.entries) name.now bytes.now) }
     ensures err { OnErr result (files.new.entries ≡ files.old.entries) }
 {
     let key = String::from_str(alloc, name)?;
@@ -75,7 +80,7 @@ impl MemStore {
         alloc: Global,
         failing_reads: &[u64],
         failing_writes: &[u64],
-    ) -> Result<MemStore, AllocError>
+    ) -> Result<MemStore, Memory>
         ensures { IfOk result (λ store. store ≡ no_files failing_reads.now failing_writes.now) }
     {
         let reads = CallPlan::new(alloc, failing_reads)?;
@@ -90,8 +95,9 @@ impl MemStore {
     }
 
     /// Puts the bytes under the name. It counts as no call, and does not fail as a write may.
-    pub fn insert(&mut self, name: &str, bytes: &[u8]) -> Result<(), AllocError>
-        ensures ok { OnOk result (self.new ≡ record self.old { files = insert self.old.files name.now bytes.now }) }
+    pub fn insert(&mut self, name: &str, bytes: &[u8]) -> Result<(), Memory>
+        ensures ok { OnOk result
+            (self.new ≡ record self.old { files = insert self.old.files name.now bytes.now }) }
         ensures err { OnErr result (self.new ≡ self.old) }
     {
         put_file(self.alloc, &mut self.files, name, bytes)
@@ -114,7 +120,9 @@ impl Store for MemStore {
         ensures within { IfOk result (IsWithin most) }
         ensures answer { IfOk result (Answers most (get self.old.files name.now)) }
         ensures failed { IsErrOf result StoreErr.Failed ↔ (next_fails self.old.reads ≡ true) }
-        ensures after { self.new ≡ record self.old { reads = next_call self.old.reads; faults = (if next_fails self.old.reads then one_more self.old.faults else self.old.faults) } }
+        ensures after { self.new ≡ record self.old {
+            reads = next_call self.old.reads;
+            faults = (if next_fails self.old.reads then one_more self.old.faults else self.old.faults) } }
         ensures later { self.old.faults ≤ self.new.faults }
     {
         if self.reads.next() {
@@ -126,9 +134,15 @@ impl Store for MemStore {
 
     /// A write that fails leaves the first half of the bytes, rounded down, under the name.
     fn write(&mut self, _alloc: Global, name: &str, bytes: &[u8]) -> Result<(), StoreErr>
-        ensures ok { OnOk result (self.new ≡ record self.old { files = insert self.old.files name.now bytes.now; writes = next_call self.old.writes }) }
-        ensures failed { IsErrOf result StoreErr.Failed → self.new ≡ record self.old { files = insert self.old.files name.now (take (length bytes.now / 2) bytes.now); writes = next_call self.old.writes; faults = one_more self.old.faults } }
-        ensures memory { IsErrOf result StoreErr.Memory → self.new ≡ record self.old { writes = next_call self.old.writes } }
+        ensures ok { OnOk result (self.new ≡ record self.old {
+            files = insert self.old.files name.now bytes.now;
+            writes = next_call self.old.writes }) }
+        ensures failed { IsErrOf result StoreErr.Failed → self.new ≡ record self.old {
+            files = insert self.old.files name.now (take (length bytes.now / 2) bytes.now);
+            writes = next_call self.old.writes;
+            faults = one_more self.old.faults } }
+        ensures memory { IsErrOf result StoreErr.Memory
+            → self.new ≡ record self.old { writes = next_call self.old.writes } }
         ensures no_fault { OnOk result (next_fails self.old.writes ≡ false) }
         ensures fault { IsErrOf result StoreErr.Failed → next_fails self.old.writes ≡ true }
         ensures later { self.old.faults ≤ self.new.faults }

@@ -41,8 +41,10 @@ pub trait Sink {
 
     /// Adds the piece to the output. A put that failed may have added the front of it.
     fn put(&mut self, alloc: Global, piece: &[u8]) -> Result<(), SinkErr>
-        ensures ok { OnOk result (written self.new ≡ option_map (λ bytes. bytes ++ piece.now) (written self.old)) }
-        ensures failed { IsErrOf result SinkErr.Failed → (n : ℕ) × (written self.new ≡ option_map (λ bytes. bytes ++ take n piece.now) (written self.old)) }
+        ensures ok { OnOk result
+            (written self.new ≡ option_map (λ bytes. bytes ++ piece.now) (written self.old)) }
+        ensures failed { IsErrOf result SinkErr.Failed → (n : ℕ)
+            × (written self.new ≡ option_map (λ bytes. bytes ++ take n piece.now) (written self.old)) }
         ensures memory { IsErrOf result SinkErr.Memory → written self.new ≡ written self.old }
         ensures later { faults self.old ≤ faults self.new }
         ensures cause { IsErrOf result SinkErr.Failed → Rose (faults self.old) (faults self.new) };

@@ -56,15 +56,18 @@ pub trait Store {
     /// The bytes under the name, if they are at most `most`.
     fn read(&mut self, alloc: Global, name: &str, most: u64) -> Result<Got, StoreErr>
         ensures within { IfOk result (IsWithin most) }
-        ensures answer { IfOk result (λ got. (files : Files) → map self.old ≡ Some files → Answers most (get files name.now) got) }
+        ensures answer { IfOk result (λ got. (files : Files) → map self.old ≡ Some files
+            → Answers most (get files name.now) got) }
         ensures kept { map self.new ≡ map self.old }
         ensures later { faults self.old ≤ faults self.new }
         ensures cause { IsErrOf result StoreErr.Failed → Rose (faults self.old) (faults self.new) };
 
     /// Puts the bytes under the name. A write that failed may have left anything there.
     fn write(&mut self, alloc: Global, name: &str, bytes: &[u8]) -> Result<(), StoreErr>
-        ensures ok { OnOk result (map self.new ≡ option_map (λ files. insert files name.now bytes.now) (map self.old)) }
-        ensures failed { IsErrOf result StoreErr.Failed → (left : Option (List ℕ)) × (map self.new ≡ option_map (with_file name.now left) (map self.old)) }
+        ensures ok { OnOk result
+            (map self.new ≡ option_map (λ files. insert files name.now bytes.now) (map self.old)) }
+        ensures failed { IsErrOf result StoreErr.Failed → (left : Option (List ℕ))
+            × (map self.new ≡ option_map (with_file name.now left) (map self.old)) }
         ensures memory { IsErrOf result StoreErr.Memory → map self.new ≡ map self.old }
         ensures later { faults self.old ≤ faults self.new }
         ensures cause { IsErrOf result StoreErr.Failed → Rose (faults self.old) (faults self.new) };
