@@ -170,6 +170,7 @@ fn fakes_fail_where_they_are_told_to(rt: HostRuntime) -> Result<(), Fail> {
 }
 
 // What a read is to answer.
+#[derive(Clone, Copy)]
 enum Want {
     Absent,
     TooLong,
@@ -185,6 +186,8 @@ fn reads<S: Store>(alloc: Global, store: &mut S, name: &str, most: u64, want: &W
     }
 }
 
+static LONG: [u8; 20_000] = [7; 20_000];
+
 // The reads of a store whose one file has the name and five bytes.
 const READS: [(&str, u64, Want); 6] = [
     ("eq_io_test/new/0000", 5, Want::Held(b"bytes")),
@@ -195,14 +198,22 @@ const READS: [(&str, u64, Want); 6] = [
     ("eq_io_test/old/0000", 5, Want::Absent),
 ];
 
+// The first row that is read otherwise.
+fn first_wrong<S: Store>(alloc: Global, store: &mut S) -> Option<usize> {
+    for (row, (name, most, want)) in READS.iter().enumerate() {
+        if !reads(alloc, store, name, *most, want) {
+            return Some(row);
+        }
+    }
+    None
+}
+
 #[test]
 fn a_store_in_memory_reads_back(rt: HostRuntime) -> Result<(), Fail> {
     let alloc = rt.alloc();
     let mut store = MemStore::new(alloc, &[], &[])?;
     store.write(alloc, "eq_io_test/new/0000", b"bytes")?;
-    for (name, most, want) in &READS {
-        assert!(rt; reads(alloc, &mut store, name, *most, want), "{name} {most}");
-    }
+    assert_eq!(rt; first_wrong(alloc, &mut store), None);
     Ok(())
 }
 
@@ -213,23 +224,26 @@ fn a_store_of_files_reads_back(rt: HostRuntime) -> Result<(), Fail> {
     let mut store = DirStore::new(&rt);
     store.write(alloc, "eq_io_test/new/0000", b"an older and longer text")?;
     store.write(alloc, "eq_io_test/new/0000", b"bytes")?;
-    for (name, most, want) in &READS {
-        assert!(rt; reads(alloc, &mut store, name, *most, want), "{name} {most}");
-    }
-
-    // A file of several chunks, and one whose length the system doesn't say.
-    let long = [7u8; 20_000];
-    store.write(alloc, "eq_io_test/long", &long)?;
-    match store.read(alloc, "eq_io_test/long", 20_000)? {
-        Got::Held(bytes) => assert!(rt; bytes.as_slice() == long.as_slice()),
-        _ => assert!(rt; false, "not held"),
-    }
-    assert!(rt; reads(alloc, &mut store, "/dev/zero", 20_000, &Want::TooLong));
-
-    // A folder is no file, and a file is no folder.
-    assert!(rt; store.read(alloc, "eq_io_test/new", u64::MAX).is_err());
-    assert!(rt; store.write(alloc, "eq_io_test/new/0000/0001", b"").is_err());
+    assert_eq!(rt; first_wrong(alloc, &mut store), None);
     fs::remove_dir_all(&rt, "eq_io_test")?;
+    Ok(())
+}
+
+// Whether a long file and one whose length the system doesn't say are read, and a folder and a file below a file
+// are faults.
+fn meets_limits<S: Store>(alloc: Global, store: &mut S) -> bool {
+    store.write(alloc, "eq_io_limits/long", &LONG).is_ok()
+        && reads(alloc, store, "eq_io_limits/long", 20_000, &Want::Held(&LONG))
+        && reads(alloc, store, "/dev/zero", 20_000, &Want::TooLong)
+        && store.read(alloc, "eq_io_limits", u64::MAX).is_err()
+        && store.write(alloc, "eq_io_limits/long/0000", b"").is_err()
+}
+
+#[test]
+fn a_store_of_files_has_limits(rt: HostRuntime) -> Result<(), Fail> {
+    let mut store = DirStore::new(&rt);
+    assert!(rt; meets_limits(rt.alloc(), &mut store));
+    fs::remove_dir_all(&rt, "eq_io_limits")?;
     Ok(())
 }
 
