@@ -1,13 +1,10 @@
 -- What the stores and sinks in memory are seen as: what they hold, and which of their calls fail.
-use Rattle.std.specs.Prelude.{◌≡◌, ℕ, ◌+◌, ◌-◌, ◌^◌, Bool, List, [], map, min, nat_eq, string_bytes, String, refl}
+use Rattle.std.specs.Prelude.{ℕ, Bool, List, [], map, nat_eq, string_bytes, String, refl}
 use Rattle.std.specs.List.{list_any}
 use Rattle.std.specs.Coded.{Coded, code_by, coded×, coded_ℕ, coded_list}
 use Rattle.std.specs.FinMap.{code, empty, from_entries}
+use Rattle.eq_io.specs.Faults.{one_more}
 use Rattle.eq_io.specs.Files.{Files}
-
--- the next number; the last one stands still
-abbrev pub one_more : ℕ → ℕ
-one_more n = min (n + 1) (2 ^ 64 - 1)
 
 -- how many calls were made, and the numbers of those that fail, the first call being 1
 pub record Calls : Type 0 where

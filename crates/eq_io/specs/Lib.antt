@@ -1,3 +1,4 @@
+pub mod Counted
+pub mod Fakes
 pub mod Faults
 pub mod Files
-pub mod Fakes

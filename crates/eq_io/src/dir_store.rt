@@ -1,6 +1,6 @@
 //! A store over the files of the system.
-ghost use Rattle.std.specs.Prelude.{◌≡◌, ◌≤◌, IfOk, IsErrOf, None};
-ghost use Rattle.eq_io.specs.Faults.{Rose};
+ghost use Rattle.std.specs.Prelude.{◌≡◌, ◌≤◌, IfOk, OnOk, IsErrOf, None};
+ghost use Rattle.eq_io.specs.Faults.{one_more};
 ghost use Rattle.eq_io.specs.Files.{IsWithin};
 
 use crate::{Got, Store, StoreErr};
@@ -17,8 +17,8 @@ use std::rt::Files;
 // How many bytes are read at once.
 const CHUNK: usize = 8192;
 
-/// Reads and writes files, whose names are paths. It tells nothing of what they hold. Contracts see it as its count of
-/// faults: every error of the system is one, except that a file which isn't found is absent.
+/// Reads and writes files, whose names are paths. It tells nothing of what they hold. Every error of the system is a
+/// fault, except that a file which isn't found is absent.
 #[derive(Drop)]
 pub struct DirStore<R> {
     rt: R,
@@ -26,11 +26,13 @@ pub struct DirStore<R> {
 }
 
 impl<R> Model for DirStore<R> {
-    ghost use Rattle.std.specs.Prelude.{ℕ};
+    ghost use Rattle.eq_io.specs.Counted.{Counted, counted_code};
 
-    ghost Value = { ℕ };
+    ghost Value = { Counted R };
 
-    ghost view = { λ s. s.faults };
+    ghost coded = { counted_code R.code };
+
+    ghost view = { λ s. record { inner = s.rt; faults = s.faults } };
 }
 
 // The rest of the reader, held only where it is at most `most` bytes.
@@ -86,15 +88,18 @@ fn write_file<R: Files>(rt: &R, name: &str, bytes: &[u8]) -> Result<(), StoreErr
 
 impl<R: Files + Drop> DirStore<R> {
     pub fn new(rt: R) -> DirStore<R>
-        ensures { result ≡ 0 }
+        ensures { result ≡ record { inner = rt; faults = 0 } }
     {
         DirStore { rt, faults: 0 }
     }
 
     // Counts a fault where the call failed.
     fn note<T>(&mut self, outcome: &Result<T, StoreErr>)
-        ensures later { self.old ≤ self.new }
-        ensures cause { IsErrOf outcome.now StoreErr.Failed → Rose self.old self.new }
+        ensures failed { IsErrOf outcome.now StoreErr.Failed
+            → self.new ≡ record self.old { faults = one_more self.old.faults } }
+        ensures memory { IsErrOf outcome.now StoreErr.Memory → self.new ≡ self.old }
+        ensures ok { OnOk outcome.now (self.new ≡ self.old) }
+        ensures later { self.old.faults ≤ self.new.faults }
     {
         if let Err(StoreErr::Failed) = outcome {
             self.faults = self.faults.saturating_add(1);
@@ -105,15 +110,28 @@ impl<R: Files + Drop> DirStore<R> {
 impl<R: Files + Drop> Store for DirStore<R> {
     ghost map = { λ _. None };
 
-    ghost faults = { λ s. s };
+    ghost faults = { λ s. s.faults };
 
-    fn read(&mut self, alloc: Global, name: &str, most: u64) -> Result<Got, StoreErr> {
+    fn read(&mut self, alloc: Global, name: &str, most: u64) -> Result<Got, StoreErr>
+        ensures within { IfOk result (IsWithin most) }
+        ensures failed { IsErrOf result StoreErr.Failed
+            → self.new ≡ record self.old { faults = one_more self.old.faults } }
+        ensures memory { IsErrOf result StoreErr.Memory → self.new ≡ self.old }
+        ensures ok { OnOk result (self.new ≡ self.old) }
+        ensures later { self.old.faults ≤ self.new.faults }
+    {
         let got = read_file(&self.rt, alloc, name, most);
         self.note(&got);
         got
     }
 
-    fn write(&mut self, _alloc: Global, name: &str, bytes: &[u8]) -> Result<(), StoreErr> {
+    fn write(&mut self, _alloc: Global, name: &str, bytes: &[u8]) -> Result<(), StoreErr>
+        ensures failed { IsErrOf result StoreErr.Failed
+            → self.new ≡ record self.old { faults = one_more self.old.faults } }
+        ensures memory { IsErrOf result StoreErr.Memory → self.new ≡ self.old }
+        ensures ok { OnOk result (self.new ≡ self.old) }
+        ensures later { self.old.faults ≤ self.new.faults }
+    {
         let done = write_file(&self.rt, name, bytes);
         self.note(&done);
         done

@@ -1,6 +1,7 @@
 //! A sink in memory, whose puts fail where a test says so.
 ghost use Rattle.std.specs.Prelude.{◌≡◌, ◌/◌, ◌≤◌, Some, ◌++◌, take, length, true, false, IfOk, OnOk, IsErrOf};
-ghost use Rattle.eq_io.specs.Fakes.{no_output, next_call, next_fails, one_more};
+ghost use Rattle.eq_io.specs.Faults.{one_more};
+ghost use Rattle.eq_io.specs.Fakes.{no_output, next_call, next_fails};
 
 use crate::call_plan::CallPlan;
 use crate::{Sink, SinkErr};

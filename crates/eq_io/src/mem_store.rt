@@ -2,7 +2,8 @@
 ghost use Rattle.std.specs.Prelude.{◌≡◌, ◌↔◌, ◌/◌, ◌≤◌, Some, take, length, true, false, IfOk, OnOk, OnErr, IsErrOf, option_copied, if◌then◌else◌};
 ghost use Rattle.std.specs.FinMap.{get, insert};
 ghost use Rattle.eq_io.specs.Files.{Answers, IsWithin};
-ghost use Rattle.eq_io.specs.Fakes.{files_of, no_files, next_call, next_fails, one_more};
+ghost use Rattle.eq_io.specs.Faults.{one_more};
+ghost use Rattle.eq_io.specs.Fakes.{files_of, no_files, next_call, next_fails};
 
 use crate::call_plan::CallPlan;
 use crate::{Got, Store, StoreErr};
@@ -109,6 +110,16 @@ impl MemStore {
     {
         find_file(&self.files, name)
     }
+
+    // Counts a fault, and gives the error that goes with it.
+    fn fault(&mut self) -> StoreErr
+        ensures error { result ≡ StoreErr.Failed }
+        ensures counted { self.new ≡ record self.old { faults = one_more self.old.faults } }
+        ensures later { self.old.faults ≤ self.new.faults }
+    {
+        self.faults = self.faults.saturating_add(1);
+        StoreErr::Failed
+    }
 }
 
 impl Store for MemStore {
@@ -126,8 +137,7 @@ impl Store for MemStore {
         ensures later { self.old.faults ≤ self.new.faults }
     {
         if self.reads.next() {
-            self.faults = self.faults.saturating_add(1);
-            return Err(StoreErr::Failed);
+            return Err(self.fault());
         }
         Ok(answer(alloc, find_file(&self.files, name), most)?)
     }
@@ -149,8 +159,7 @@ impl Store for MemStore {
     {
         if self.writes.next() {
             put_file(self.alloc, &mut self.files, name, &bytes[..bytes.len() / 2])?;
-            self.faults = self.faults.saturating_add(1);
-            return Err(StoreErr::Failed);
+            return Err(self.fault());
         }
         put_file(self.alloc, &mut self.files, name, bytes)?;
         Ok(())

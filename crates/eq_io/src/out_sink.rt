@@ -1,14 +1,16 @@
 //! A sink over a writer of the system, as standard output.
-ghost use Rattle.std.specs.Prelude.{◌≡◌, ◌≤◌, length, take, None};
+ghost use Rattle.std.specs.Prelude.{◌≡◌, ◌≤◌, ℕ, length, take, None, OnOk, IsErrOf};
 ghost use Rattle.std.specs.Io.KnownBytes.{Appends};
+ghost use Rattle.eq_io.specs.Faults.{one_more};
 
 use crate::{Sink, SinkErr};
 use std::alloc::Global;
 use std::io::{ErrorKind, Write};
 use std::marker::Model;
 
-/// Puts what it is given into a writer. It tells nothing of what the writer holds. Contracts see it as its count of
-/// faults: an error of the writer is one, and so is a write that takes nothing of a piece that isn't empty.
+/// Puts what it is given into a writer. As a sink it tells nothing of its bytes; what it does to a writer that tells
+/// its own is said by the clauses of its `put`. An error of the writer is a fault, and so is a write that takes nothing
+/// of a piece that isn't empty.
 #[derive(Drop)]
 pub struct OutSink<W> {
     out: W,
@@ -16,11 +18,13 @@ pub struct OutSink<W> {
 }
 
 impl<W> Model for OutSink<W> {
-    ghost use Rattle.std.specs.Prelude.{ℕ};
+    ghost use Rattle.eq_io.specs.Counted.{Counted, counted_code};
 
-    ghost Value = { ℕ };
+    ghost Value = { Counted W };
 
-    ghost view = { λ s. s.faults };
+    ghost coded = { counted_code W.code };
+
+    ghost view = { λ s. record { inner = s.out; faults = s.faults } };
 }
 
 // Writes the piece from its front on, until a write fails or takes nothing, and says how many bytes were taken.
@@ -45,7 +49,7 @@ fn write_front<W: Write>(out: &mut W, piece: &[u8]) -> usize
 
 impl<W: Write> OutSink<W> {
     pub fn new(w: W) -> OutSink<W>
-        ensures { result ≡ 0 }
+        ensures { result ≡ record { inner = w; faults = 0 } }
     {
         OutSink { out: w, faults: 0 }
     }
@@ -54,9 +58,18 @@ impl<W: Write> OutSink<W> {
 impl<W: Write> Sink for OutSink<W> {
     ghost written = { λ _. None };
 
-    ghost faults = { λ s. s };
+    ghost faults = { λ s. s.faults };
 
-    fn put(&mut self, _alloc: Global, piece: &[u8]) -> Result<(), SinkErr> {
+    fn put(&mut self, _alloc: Global, piece: &[u8]) -> Result<(), SinkErr>
+        ensures ok { OnOk result
+            (Appends (W.contents self.old.inner) (W.contents self.new.inner) piece.now) }
+        ensures failed { IsErrOf result SinkErr.Failed → (n : ℕ)
+            × Appends (W.contents self.old.inner) (W.contents self.new.inner) (take n piece.now) }
+        ensures fault { IsErrOf result SinkErr.Failed → self.new.faults ≡ one_more self.old.faults }
+        ensures no_fault { OnOk result (self.new.faults ≡ self.old.faults) }
+        ensures later { self.old.faults ≤ self.new.faults }
+        ensures only { IsErrOf result SinkErr.Memory → ⊥ }
+    {
         if write_front(&mut self.out, piece) < piece.len() {
             self.faults = self.faults.saturating_add(1);
             return Err(SinkErr::Failed);
