@@ -1,17 +1,15 @@
 -- What a read answers, and what a write that failed leaves.
-use Rattle.std.proofs.Common.{◌≡◌, ◌≢◌, ◌↔◌, ℕ, ◌<◌, ◌≤◌, List, length, Option, Some, None, Bool, true, false, cond, refl, sym, ap, subst, ◌∙◌, arith}
+use Rattle.std.proofs.Common.{◌≡◌, ◌≢◌, ℕ, ◌<◌, ◌≤◌, List, length, Option, Some, None, Bool, true, false, cond, refl, sym, ap, subst, ◌∙◌, arith}
 use Rattle.std.specs.Prelude.{IsSomeAnd}
 use Rattle.std.specs.Ordering.{nat_cmp, is_eq, eq_by_cmp}
 use Rattle.std.specs.Cmp.Lexicographic.{slice_cmp, nat_list_cmp_total}
-use Rattle.std.specs.FinMap.{get, insert, remove, get-insert, get-remove}
-use Rattle.std.specs.Str.{bytes_eq}
+use Rattle.std.specs.FinMap.{get, get-insert, get-remove}
 use Rattle.std.proofs.lemmas.Bool.{false_from_ne_true}
 use Rattle.std.proofs.lemmas.Slice.Eq.{bytes_eq-Decides}
 use Rattle.std.proofs.lemmas.Cmp.{tied_itself}
 use Rattle.std.proofs.lemmas.Map.Text.{is_eq-slice_cmp}
-use Rattle.eq_io.specs.declared.store.Got.{Got}
 use Rattle.eq_io.specs.declared.store.Got.TheVariants.{Absent, TooLong, Held}
-use Rattle.eq_io.specs.Files.{Files, Answers, IsWithin, with_file, AnswersExactly, ChangesOnlyTheName}
+use Rattle.eq_io.specs.Files.{Files, with_file, AnswersExactly, ChangesOnlyTheName}
 
 tie : List ℕ → List ℕ → Bool
 tie x y = eq_by_cmp (slice_cmp nat_cmp) x y

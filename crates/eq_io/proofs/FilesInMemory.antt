@@ -30,8 +30,8 @@ pub files_of-update : {A : Type 0} (name bytes : List ℕ) (m n : BTreeMap (Stri
     → files_of n.entries ≡ insert (files_of m.entries) name bytes
 files_of-update name bytes m n u =
     same_map nat_list_cmp_total (slice_cmp-IsAntisymmetric nat_cmp-IsAntisymmetric) _ _ (λ q.
-      get-files_of q n.entries
-      ∙ btree_map_updates_text name m n (Some bytes) u q
-      ∙ ap (λ b. cond b (Some bytes) (lookup (is_at (λ k. slice_cmp nat_cmp q (string_bytes k))) m.entries)) (tie_turned name q)
-      ∙ ap (cond (eq_by_cmp (slice_cmp nat_cmp) q name) (Some bytes)) (sym (get-files_of q m.entries))
-      ∙ sym (get-insert nat_list_cmp_total (files_of m.entries) name bytes q))
+    get-files_of q n.entries
+    ∙ btree_map_updates_text name m n (Some bytes) u q
+    ∙ ap (λ b. cond b (Some bytes) (lookup (is_at (λ k. slice_cmp nat_cmp q (string_bytes k))) m.entries)) (tie_turned name q)
+    ∙ ap (cond (eq_by_cmp (slice_cmp nat_cmp) q name) (Some bytes)) (sym (get-files_of q m.entries))
+    ∙ sym (get-insert nat_list_cmp_total (files_of m.entries) name bytes q))

@@ -6,13 +6,12 @@ ghost use Rattle.eq_io.specs.Files.{IsWithin};
 use crate::{Got, Store, StoreErr};
 use eq_base::Bytes;
 use std::alloc::Global;
-use std::fs;
 use std::fs::OpenFile;
-use std::io;
 use std::io::{ErrorKind, Read};
 use std::marker::Model;
 use std::path::Path;
 use std::rt::Files;
+use std::{fs, io};
 
 // How many bytes are read at once.
 const CHUNK: usize = 8192;

@@ -13,8 +13,8 @@ mod store;
 #[cfg(test)]
 mod tests;
 
-pub use eq_base::{Bytes, Memory};
 pub use dir_store::DirStore;
+pub use eq_base::{Bytes, Memory};
 pub use gate::{Gate, NoGate};
 pub use mem_sink::MemSink;
 pub use mem_store::MemStore;

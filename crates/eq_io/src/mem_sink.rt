@@ -56,12 +56,14 @@ impl Sink for MemSink {
     /// A put that fails adds the first half of the piece, rounded down.
     fn put(&mut self, _alloc: Global, piece: &[u8]) -> Result<(), SinkErr>
         ensures ok { OnOk result (self.new ≡ record self.old {
-            written = self.old.written ++ piece.now;
-            puts = next_call self.old.puts }) }
+          written = self.old.written ++ piece.now;
+          puts = next_call self.old.puts;
+        }) }
         ensures failed { IsErrOf result SinkErr.Failed → self.new ≡ record self.old {
-            written = self.old.written ++ take (length piece.now / 2) piece.now;
-            puts = next_call self.old.puts;
-            faults = one_more self.old.faults } }
+          written = self.old.written ++ take (length piece.now / 2) piece.now;
+          puts = next_call self.old.puts;
+          faults = one_more self.old.faults;
+        } }
         ensures memory { IsErrOf result SinkErr.Memory
             → self.new ≡ record self.old { puts = next_call self.old.puts } }
         ensures no_fault { OnOk result (next_fails self.old.puts ≡ false) }

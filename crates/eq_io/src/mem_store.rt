@@ -30,10 +30,11 @@ impl Model for MemStore {
     ghost coded = { files_code };
 
     ghost view = { λ s. record {
-        files = files_of s.files.entries;
-        reads = s.reads;
-        writes = s.writes;
-        faults = s.faults } };
+      files = files_of s.files.entries;
+      reads = s.reads;
+      writes = s.writes;
+      faults = s.faults;
+    } };
 }
 
 // The bytes under the name.
@@ -132,8 +133,9 @@ impl Store for MemStore {
         ensures answer { IfOk result (Answers most (get self.old.files name.now)) }
         ensures failed { IsErrOf result StoreErr.Failed ↔ (next_fails self.old.reads ≡ true) }
         ensures after { self.new ≡ record self.old {
-            reads = next_call self.old.reads;
-            faults = (if next_fails self.old.reads then one_more self.old.faults else self.old.faults) } }
+          reads = next_call self.old.reads;
+          faults = (if next_fails self.old.reads then one_more self.old.faults else self.old.faults);
+        } }
         ensures later { self.old.faults ≤ self.new.faults }
     {
         if self.reads.next() {
@@ -145,12 +147,14 @@ impl Store for MemStore {
     /// A write that fails leaves the first half of the bytes, rounded down, under the name.
     fn write(&mut self, _alloc: Global, name: &str, bytes: &[u8]) -> Result<(), StoreErr>
         ensures ok { OnOk result (self.new ≡ record self.old {
-            files = insert self.old.files name.now bytes.now;
-            writes = next_call self.old.writes }) }
+          files = insert self.old.files name.now bytes.now;
+          writes = next_call self.old.writes;
+        }) }
         ensures failed { IsErrOf result StoreErr.Failed → self.new ≡ record self.old {
-            files = insert self.old.files name.now (take (length bytes.now / 2) bytes.now);
-            writes = next_call self.old.writes;
-            faults = one_more self.old.faults } }
+          files = insert self.old.files name.now (take (length bytes.now / 2) bytes.now);
+          writes = next_call self.old.writes;
+          faults = one_more self.old.faults;
+        } }
         ensures memory { IsErrOf result StoreErr.Memory
             → self.new ≡ record self.old { writes = next_call self.old.writes } }
         ensures no_fault { OnOk result (next_fails self.old.writes ≡ false) }

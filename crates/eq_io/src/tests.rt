@@ -10,13 +10,14 @@ use crate::{
     Bytes, DirStore, Gate, Got, MemSink, MemStore, NoGate, OutSink, Sink, SinkErr, Store, StoreErr,
 };
 use std::alloc::Global;
-use std::fs;
-use std::io;
 use std::io::{ErrorKind, Write};
 use std::test::Fail;
+use std::{fs, io};
 
 const ABSENT: u8 = 16;
+
 const FAULT: u8 = 17;
+
 const NO_MEMORY: u8 = 18;
 
 fn status_of_store(e: StoreErr) -> u8
@@ -233,7 +234,13 @@ fn a_store_of_files_reads_back(rt: HostRuntime) -> Result<(), Fail> {
 // are faults.
 fn meets_limits<S: Store>(alloc: Global, store: &mut S) -> bool {
     store.write(alloc, "eq_io_limits/long", &LONG).is_ok()
-        && reads(alloc, store, "eq_io_limits/long", 20_000, &Want::Held(&LONG))
+        && reads(
+            alloc,
+            store,
+            "eq_io_limits/long",
+            20_000,
+            &Want::Held(&LONG),
+        )
         && reads(alloc, store, "/dev/zero", 20_000, &Want::TooLong)
         && store.read(alloc, "eq_io_limits", u64::MAX).is_err()
         && store.write(alloc, "eq_io_limits/long/0000", b"").is_err()

@@ -9,5 +9,5 @@ write-tells c = record {
   failed = λ e. (Some (take (length c.args.bytes.now / 2) c.args.bytes.now), ap (λ (s : FilesInMemory). Some s.files) (c.ensures.failed e));
   memory = search (rules, c.ensures.memory);
   later = c.ensures.later;
-  cause = search (rules, c.ensures.failed)
+  cause = search (rules, c.ensures.failed);
 }
