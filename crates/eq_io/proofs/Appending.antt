@@ -11,7 +11,8 @@ joined (Some x) (Some y) None bs cs p q = absurd q
 joined (Some x) (Some y) (Some z) bs cs p q = q ∙ ap (λ l. l ++ cs) p ∙ append_assoc x bs cs
 
 -- after n bytes of the piece, m more
-pub appends_more : (a b c : Option (List ℕ)) (n m k : ℕ) (piece : List ℕ) → Appends a b (take n piece) → Appends b c (take m (drop n piece)) → k ≡ n + m → Appends a c (take k piece)
+pub appends_more : (a b c : Option (List ℕ)) (n m k : ℕ) (piece : List ℕ)
+    → Appends a b (take n piece) → Appends b c (take m (drop n piece)) → k ≡ n + m → Appends a c (take k piece)
 appends_more a b c n m k piece p q e =
     subst (Appends a c) (sym (take-add n m piece) ∙ ap (λ i. take i piece) (sym e)) (joined a b c _ _ p q)
 

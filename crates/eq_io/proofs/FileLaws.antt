@@ -37,16 +37,22 @@ put_elsewhere name other None files apart =
 pub changes_only_the_name : ChangesOnlyTheName
 changes_only_the_name name left files = (put_here name left files, λ other apart. put_elsewhere name other left files apart)
 
-too_long : (most : ℕ) (held : Option (List ℕ)) (bytes : List ℕ) → held ≡ Some bytes → most < length bytes → IsSomeAnd held (λ b. most < length b)
-too_long most held bytes e h = let P : Option (List ℕ) → Type 0 = λ o. IsSomeAnd o (λ b. most < length b) in subst P (sym e) h
+-- held, and more than `most`
+abbrev IsLong : ℕ → Option (List ℕ) → Type 0
+IsLong most held = IsSomeAnd held (λ bytes. most < length bytes)
 
-not_too_long : (most : ℕ) (held : Option (List ℕ)) (bytes : List ℕ) → held ≡ Some bytes → length bytes ≤ most → IsSomeAnd held (λ b. most < length b) → ⊥
-not_too_long most held bytes e le h =
-    let P : Option (List ℕ) → Type 0 = λ o. IsSomeAnd o (λ b. most < length b) in
-    let long : most < length bytes = subst P e h in
-    omega arith
+is_long : (most : ℕ) (held : Option (List ℕ)) (bytes : List ℕ) → held ≡ Some bytes → most < length bytes → IsLong most held
+is_long most held bytes e long = subst (IsLong most) (sym e) long
+
+not_long : (most : ℕ) (held : Option (List ℕ)) (bytes : List ℕ) → held ≡ Some bytes → length bytes ≤ most → IsLong most held → ⊥
+not_long most held bytes e le h = let long : most < length bytes = subst (IsLong most) e h in omega arith
+
+none_long : (most : ℕ) (held : Option (List ℕ)) → held ≡ None → IsLong most held → ⊥
+none_long most held e h = subst (IsLong most) e h
 
 pub answers_exactly : AnswersExactly
-answers_exactly most held Absent e _ = ((λ _. e, λ _. refl), (λ (f : Absent ≡ TooLong). absurd (cc), λ h. absurd (let P : Option (List ℕ) → Type 0 = λ o. IsSomeAnd o (λ b. most < length b) in subst P e h)))
-answers_exactly most held TooLong (bytes, e, h) _ = ((λ (f : TooLong ≡ Absent). absurd (cc), λ (f : held ≡ None). absurd (cc)), (λ _. too_long most held bytes e h, λ _. refl))
-answers_exactly most held (Held bytes) e le = ((λ (f : Held bytes ≡ Absent). absurd (cc), λ (f : held ≡ None). absurd (cc)), (λ (f : Held bytes ≡ TooLong). absurd (cc), λ h. absurd (not_too_long most held bytes e le h)))
+answers_exactly most held Absent e _ = ((λ _. e, λ _. refl), (λ (f : Absent ≡ TooLong). absurd (cc), λ h. absurd (none_long most held e h)))
+answers_exactly most held TooLong (bytes, e, long) _ =
+    ((λ (f : TooLong ≡ Absent). absurd (cc), λ (f : held ≡ None). absurd (cc)), (λ _. is_long most held bytes e long, λ _. refl))
+answers_exactly most held (Held bytes) e le =
+    ((λ (f : Held bytes ≡ Absent). absurd (cc), λ (f : held ≡ None). absurd (cc)), (λ (f : Held bytes ≡ TooLong). absurd (cc), λ h. absurd (not_long most held bytes e le h)))

@@ -8,4 +8,5 @@ pub record Counted (T : Type 0) : Type 0 where
   pub faults : ℕ
 
 abbrev pub counted_code : {T : Type 0} → Coded T → Coded (Counted T)
-counted_code {T} code = code_by (T × ℕ) (coded× code coded_ℕ) (λ c. (c.inner, c.faults)) (λ p. record { inner = p.0; faults = p.1 }) (λ _. refl)
+counted_code {T} code =
+    code_by (T × ℕ) (coded× code coded_ℕ) (λ c. (c.inner, c.faults)) (λ p. record { inner = p.0; faults = p.1 }) (λ _. refl)

@@ -12,7 +12,9 @@ pub record Calls : Type 0 where
   pub failing : List ℕ
 
 abbrev pub calls_code : Coded Calls
-calls_code = code_by (ℕ × List ℕ) (coded× coded_ℕ (coded_list coded_ℕ)) (λ c. (c.made, c.failing)) (λ p. record { made = p.0; failing = p.1 }) (λ _. refl)
+calls_code =
+    code_by (ℕ × List ℕ) (coded× coded_ℕ (coded_list coded_ℕ)) (λ c. (c.made, c.failing))
+    (λ p. record { made = p.0; failing = p.1 }) (λ _. refl)
 
 -- no call was made
 abbrev pub no_calls : List ℕ → Calls
@@ -34,12 +36,16 @@ pub record FilesInMemory : Type 0 where
   pub faults : ℕ
 
 abbrev pub files_code : Coded FilesInMemory
-files_code = code_by (Files × (Calls × (Calls × ℕ))) (coded× (code (coded_list coded_ℕ) (coded_list coded_ℕ)) (coded× calls_code (coded× calls_code coded_ℕ)))
-    (λ s. (s.files, (s.reads, (s.writes, s.faults)))) (λ p. record { files = p.0; reads = p.1.0; writes = p.1.1.0; faults = p.1.1.1 }) (λ _. refl)
+files_code =
+    code_by (Files × (Calls × (Calls × ℕ)))
+    (coded× (code (coded_list coded_ℕ) (coded_list coded_ℕ)) (coded× calls_code (coded× calls_code coded_ℕ)))
+    (λ s. (s.files, (s.reads, (s.writes, s.faults))))
+    (λ p. record { files = p.0; reads = p.1.0; writes = p.1.1.0; faults = p.1.1.1 }) (λ _. refl)
 
 -- no files, and no call was made
 abbrev pub no_files : List ℕ → List ℕ → FilesInMemory
-no_files failing_reads failing_writes = record { files = empty; reads = no_calls failing_reads; writes = no_calls failing_writes; faults = 0 }
+no_files failing_reads failing_writes =
+    record { files = empty; reads = no_calls failing_reads; writes = no_calls failing_writes; faults = 0 }
 
 -- the files of a map whose keys are texts
 abbrev pub files_of : {A : Type 0} → List (String A × List ℕ) → Files
@@ -52,7 +58,8 @@ pub record OutputInMemory : Type 0 where
   pub faults : ℕ
 
 abbrev pub output_code : Coded OutputInMemory
-output_code = code_by (List ℕ × (Calls × ℕ)) (coded× (coded_list coded_ℕ) (coded× calls_code coded_ℕ))
+output_code =
+    code_by (List ℕ × (Calls × ℕ)) (coded× (coded_list coded_ℕ) (coded× calls_code coded_ℕ))
     (λ s. (s.written, (s.puts, s.faults))) (λ p. record { written = p.0; puts = p.1.0; faults = p.1.1 }) (λ _. refl)
 
 -- nothing is written, and no call was made

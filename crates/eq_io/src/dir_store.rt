@@ -74,7 +74,9 @@ fn write_in_new_folder<R: Files>(rt: &R, name: &str, bytes: &[u8]) -> io::Result
     fs::write(rt, name, bytes)
 }
 
-fn write_file<R: Files>(rt: &R, name: &str, bytes: &[u8]) -> Result<(), StoreErr> {
+fn write_file<R: Files>(rt: &R, name: &str, bytes: &[u8]) -> Result<(), StoreErr>
+    ensures { IsErrOf result StoreErr.Memory → ⊥ }
+{
     let done = match fs::write(rt, name, bytes) {
         Err(e) if e.kind() == ErrorKind::NotFound => write_in_new_folder(rt, name, bytes),
         done => done,
@@ -127,7 +129,7 @@ impl<R: Files + Drop> Store for DirStore<R> {
     fn write(&mut self, _alloc: Global, name: &str, bytes: &[u8]) -> Result<(), StoreErr>
         ensures failed { IsErrOf result StoreErr.Failed
             → self.new ≡ record self.old { faults = one_more self.old.faults } }
-        ensures memory { IsErrOf result StoreErr.Memory → self.new ≡ self.old }
+        ensures only { IsErrOf result StoreErr.Memory → ⊥ }
         ensures ok { OnOk result (self.new ≡ self.old) }
         ensures later { self.old.faults ≤ self.new.faults }
     {
