@@ -1,5 +1,6 @@
 //! A store over the files of the system.
-ghost use Rattle.std.specs.Prelude.{◌≡◌, ◌≤◌, IfOk, OnOk, IsErrOf, None};
+ghost use Rattle.std.specs.Prelude.{◌≡◌, ◌≢◌, ◌≤◌, IfOk, OnOk, IsErrOf, None};
+ghost use Rattle.std.specs.IoError.{error_kind};
 ghost use Rattle.eq_io.specs.Faults.{one_more};
 ghost use Rattle.eq_io.specs.Files.{IsWithin};
 
@@ -52,13 +53,23 @@ fn read_within<F: Read>(alloc: Global, file: &mut F, most: u64) -> Result<Got, S
     Err(StoreErr::Failed)
 }
 
+// What a read answers of a file that can't be opened.
+fn answer_unopened(e: &io::Error) -> Result<Got, StoreErr>
+    ensures absent { error_kind e.now ≡ ErrorKind.NotFound → result ≡ Ok Got.Absent }
+    ensures fault { error_kind e.now ≢ ErrorKind.NotFound → result ≡ Err StoreErr.Failed }
+{
+    match e.kind() {
+        ErrorKind::NotFound => Ok(Got::Absent),
+        _ => Err(StoreErr::Failed),
+    }
+}
+
 fn read_file<R: Files>(rt: &R, alloc: Global, name: &str, most: u64) -> Result<Got, StoreErr>
     ensures { IfOk result (IsWithin most) }
 {
     let mut file = match fs::open(rt, name) {
         Ok(file) => file,
-        Err(e) if e.kind() == ErrorKind::NotFound => return Ok(Got::Absent),
-        Err(_) => return Err(StoreErr::Failed),
+        Err(e) => return answer_unopened(&e),
     };
     match file.metadata() {
         Ok(metadata) if metadata.len() > most => Ok(Got::TooLong),

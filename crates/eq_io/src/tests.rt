@@ -244,6 +244,7 @@ fn meets_limits<S: Store>(alloc: Global, store: &mut S) -> bool {
         && reads(alloc, store, "/dev/zero", 20_000, &Want::TooLong)
         && store.read(alloc, "eq_io_limits", u64::MAX).is_err()
         && store.write(alloc, "eq_io_limits/long/0000", b"").is_err()
+        && store.read(alloc, "eq_io_limits/long/0000", 0).is_err()
 }
 
 #[test]
