@@ -1,0 +1,4 @@
+pub mod Counted
+pub mod Fakes
+pub mod Faults
+pub mod Files
