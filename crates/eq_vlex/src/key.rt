@@ -1,5 +1,8 @@
 //! The keywords of Verilog.
 
+ghost use Rattle.std.specs.Prelude.{◌≡◌, map};
+ghost use Rattle.eq_vlex.specs.Words as spec;
+
 /// A word that is no name.
 #[derive(Clone, Copy, Debug, PartialEq, Eq)]
 pub enum Key {
@@ -30,7 +33,7 @@ pub enum Key {
 }
 
 /// Each keyword's bytes.
-pub const KEYWORDS: [(&[u8], Key); 54] = [
+const KEYWORDS: [(&[u8], Key); 54] = [
     (b"module", Key::Module),
     (b"endmodule", Key::Endmodule),
     (b"input", Key::Input),
@@ -86,3 +89,23 @@ pub const KEYWORDS: [(&[u8], Key); 54] = [
     (b"primitive", Key::Reserved),
     (b"endprimitive", Key::Reserved),
 ];
+
+/// What stands beside a word in a table.
+fn looked_up(mut table: &[(&[u8], Key)], word: &[u8]) -> Option<Key>
+    ensures { result ≡ spec.looked_up (map (λ row. (row.0.now, row.1)) table.entry.now) word.now }
+{
+    while let [row, rest @ ..] = table {
+        if row.0 == word {
+            return Some(row.1);
+        }
+        table = rest;
+    }
+    None
+}
+
+/// The key of a word, if it is a keyword.
+pub fn key_of(word: &[u8]) -> Option<Key>
+    ensures { result ≡ spec.key_of word.now }
+{
+    looked_up(&KEYWORDS, word)
+}
