@@ -57,17 +57,27 @@ unsigned_part (b ∷ bs) = if b == 115 || b == 83 then bs else b ∷ bs
 abbrev pub has_unknown : List ℕ → Bool
 has_unknown tail = nat_lt 0 (base_of (slice_index (unsigned_part tail) 0)) && list_any is_unknown (drop 1 (unsigned_part tail))
 
--- front, `'` and tail are a constant: a size of 1 to 128, a base, and digits of that base and `_` with at least
--- one digit, whose value fits the size
-pub record IsSized (front tail : List ℕ) (c : Constant) : Type 0 where
-  pub size : c.size ≡ value_of 10 front
-  pub some_bit : 0 < c.size
-  pub narrow : c.size ≤ 128
+-- digits of the base and `_`, with at least one digit
+abbrev pub are_digits : ℕ → List ℕ → Bool
+are_digits base digits = list_all (λ b. is_digit_of base b || b == 95) digits && list_any (is_digit_of base) digits
+
+-- A size, `'` and a tail are a constant: the size is 1 to 128, and the tail is a base and digits of that base, whose
+-- value fits the size.
+pub record IsSized (bits : ℕ) (tail : List ℕ) (c : Constant) : Type 0 where
+  pub size : c.size ≡ bits
+  pub some_bit : 0 < bits
+  pub narrow : bits ≤ 128
   pub base : 0 < base_of (slice_index tail 0)
-  pub digits : list_all (λ b. is_digit_of (base_of (slice_index tail 0)) b || b == 95) (drop 1 tail) ≡ true
-  pub some_digit : list_any (is_digit_of (base_of (slice_index tail 0))) (drop 1 tail) ≡ true
+  pub digits : are_digits (base_of (slice_index tail 0)) (drop 1 tail) ≡ true
   pub value : c.value ≡ value_of (base_of (slice_index tail 0)) (drop 1 tail)
-  pub fits : c.value < 2 ^ c.size
+  pub fits : c.value < 2 ^ bits
+
+-- what is wrong with a size, `'` and a tail: an unknown digit; or else a size above 128; or else anything
+abbrev pub IsBadSized : ℕ → List ℕ → LexKind → Type 0
+IsBadSized bits tail XValue = has_unknown tail ≡ true
+IsBadSized bits tail TooWide = (has_unknown tail ≡ false) × (128 < bits)
+IsBadSized bits tail BadNumber = (has_unknown tail ≡ false) × (bits ≤ 128) × ((c : Constant) → ¬ IsSized bits tail c)
+IsBadSized bits tail _ = ⊥
 
 -- a decimal has nothing behind its digits, and is below 2 ^ 31
 pub record IsDecimal (front tail : List ℕ) (n : ℕ) : Type 0 where
@@ -77,17 +87,25 @@ pub record IsDecimal (front tail : List ℕ) (n : ℕ) : Type 0 where
 
 -- ---- numbers at the front of a text
 
--- the number at the front has so many bytes, and is this token
-abbrev pub IsNumber : Bool → List ℕ → ℕ → TokenKind → Type 0
-IsNumber true text len (token.Sized c) = (len ≡ length (size_part text) + 1 + length (quoted_part text)) × IsSized (size_part text) (quoted_part text) c
-IsNumber false text len (token.Decimal value) = (len ≡ length (size_part text) + length (plain_part text)) × IsDecimal (size_part text) (plain_part text) value
-IsNumber _ _ _ _ = ⊥
+-- a number with a `'` or without has so many bytes and is this token
+abbrev pub IsNumberOf : Bool → List ℕ → List ℕ → ℕ → TokenKind → Type 0
+IsNumberOf true front tail len (token.Sized c) = (len ≡ length front + 1 + length tail) × IsSized (value_of 10 front) tail c
+IsNumberOf false front tail len (token.Decimal n) = (len ≡ length front + length tail) × IsDecimal front tail n
+IsNumberOf _ front tail len _ = ⊥
 
--- A number with a `'` has an unknown digit; or else a size above 128; or else it is no constant. A number without
--- one is no decimal.
-abbrev pub IsBadNumber : Bool → List ℕ → LexKind → Type 0
-IsBadNumber true text XValue = has_unknown (quoted_part text) ≡ true
-IsBadNumber true text TooWide = (has_unknown (quoted_part text) ≡ false) × (128 < value_of 10 (size_part text))
-IsBadNumber true text BadNumber = (has_unknown (quoted_part text) ≡ false) × (value_of 10 (size_part text) ≤ 128) × ((c : Constant) → ¬ IsSized (size_part text) (quoted_part text) c)
-IsBadNumber false text BadNumber = (value : ℕ) → ¬ IsDecimal (size_part text) (plain_part text) value
-IsBadNumber _ _ _ = ⊥
+-- what is wrong with it
+abbrev pub IsBadNumberOf : Bool → List ℕ → List ℕ → LexKind → Type 0
+IsBadNumberOf true front tail fault = IsBadSized (value_of 10 front) tail fault
+IsBadNumberOf false front tail fault = (fault ≡ BadNumber) × ((n : ℕ) → ¬ IsDecimal front tail n)
+
+abbrev pub tail_part : Bool → List ℕ → List ℕ
+tail_part true text = quoted_part text
+tail_part false text = plain_part text
+
+-- the number at the front has so many bytes and is this token
+abbrev pub IsNumber : List ℕ → ℕ → TokenKind → Type 0
+IsNumber text len kind = IsNumberOf (is_quoted text) (size_part text) (tail_part (is_quoted text) text) len kind
+
+-- what is wrong with the number at the front
+abbrev pub IsBadNumber : List ℕ → LexKind → Type 0
+IsBadNumber text fault = IsBadNumberOf (is_quoted text) (size_part text) (tail_part (is_quoted text) text) fault

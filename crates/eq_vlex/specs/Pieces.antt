@@ -14,7 +14,7 @@ use Rattle.eq_vlex.specs.Bytes.{is_in, begins}
 use Rattle.eq_vlex.specs.Separators.{ClosesComment, ClosesAttribute, IsFirst}
 use Rattle.eq_vlex.specs.Words.{key_of, word_or_key, simple_name, escaped_name, IsEscapedName}
 use Rattle.eq_vlex.specs.Marks.{mark_at}
-use Rattle.eq_vlex.specs.Numbers.{is_quoted, IsNumber, IsBadNumber}
+use Rattle.eq_vlex.specs.Numbers.{IsNumber, IsBadNumber}
 
 -- The first len bytes of a text that begins so are a separator: all white space that stands there; a comment up to
 -- the end of its line; a comment up to its first `*/`; an attribute up to its first `*)` outside of strings.
@@ -29,7 +29,7 @@ IsSeparator _ text len = ⊥
 abbrev pub IsLexeme : Start → List ℕ → ℕ → TokenKind → Type 0
 IsLexeme start.SimpleName text len kind = (len ≡ length (simple_name text)) × (kind ≡ word_or_key (key_of (simple_name text)) (simple_name text))
 IsLexeme start.EscapedName text len kind = IsEscapedName text × (len ≡ length (escaped_name text) + 1) × (kind ≡ token.Word (escaped_name text))
-IsLexeme start.Number text len kind = IsNumber (is_quoted text) text len kind
+IsLexeme start.Number text len kind = IsNumber text len kind
 IsLexeme start.Other text len kind = (m : Mark) × (mark_at text ≡ Some (m, len)) × (kind ≡ token.Mark m)
 IsLexeme _ text len kind = ⊥
 
@@ -38,7 +38,7 @@ abbrev pub IsFault : Start → List ℕ → LexKind → Type 0
 IsFault start.BlockComment text fault = (fault ≡ OpenComment) × ((k : ℕ) → ¬ ClosesComment (drop 2 text) k)
 IsFault start.Attribute text fault = (fault ≡ OpenAttribute) × ((k : ℕ) → ¬ ClosesAttribute (drop 2 text) k)
 IsFault start.EscapedName text fault = (fault ≡ BadByte) × ¬ IsEscapedName text
-IsFault start.Number text fault = IsBadNumber (is_quoted text) text fault
+IsFault start.Number text fault = IsBadNumber text fault
 IsFault start.Other text fault = (fault ≡ BadByte) × (mark_at text ≡ None)
 IsFault _ text fault = ⊥
 

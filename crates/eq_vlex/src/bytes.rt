@@ -1,7 +1,7 @@
 //! Classes of bytes, and what begins at a place of a text.
 
 ghost use Rattle.std.specs.Prelude.{◌≡◌, ◌<◌, ◌≤◌, length, slice_index};
-ghost use Rattle.std.specs.List.{prefix_len};
+ghost use Rattle.std.specs.List.{prefix_len, take_while};
 ghost use Rattle.eq_vlex.specs.Bytes as spec;
 
 /// A set of bytes.
@@ -60,7 +60,7 @@ pub fn byte(text: &[u8], at: usize) -> u8
 }
 
 /// How many bytes of the class stand at the front.
-pub fn front(class: Class, text: &[u8]) -> usize
+fn front(class: Class, text: &[u8]) -> usize
     ensures value { result ≡ prefix_len (spec.is_in class) text.now }
     ensures within { result ≤ length text.now }
 {
@@ -69,6 +69,15 @@ pub fn front(class: Class, text: &[u8]) -> usize
         len += 1;
     }
     len
+}
+
+/// The longest run of bytes of the class at the front.
+pub fn run(class: Class, text: &[u8]) -> &[u8]
+    ensures value { result.now ≡ take_while (spec.is_in class) text.now }
+    ensures len { length result.now ≡ prefix_len (spec.is_in class) text.now }
+    ensures within { length result.now ≤ length text.now }
+{
+    &text[..front(class, text)]
 }
 
 /// What begins with these two bytes.

@@ -5,7 +5,7 @@ mod bytes;
 mod fault;
 mod key;
 mod mark;
-// mod number;
+mod number;
 mod piece;
 mod separator;
 mod token;
