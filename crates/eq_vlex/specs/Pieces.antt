@@ -1,11 +1,13 @@
 -- A text as pieces: separators and tokens, each of them determined by what stands there.
-use Rattle.std.specs.Prelude.{◌≡◌, ℕ, ◌+◌, ◌<◌, List, [], ◌∷◌, length, drop, Option, Some, None}
+use Rattle.std.specs.Prelude.{◌≡◌, ℕ, ◌+◌, ◌<◌, List, [], ◌∷◌, length, drop, Option, Some, None, ⊤}
 use Rattle.std.specs.List.{prefix_len}
 use Rattle.eq_vlex.specs.declared.bytes.Class.TheVariants as class
 use Rattle.eq_vlex.specs.declared.bytes.Start.{Start}
 use Rattle.eq_vlex.specs.declared.bytes.Start.TheVariants as start
 use Rattle.eq_vlex.specs.declared.fault.LexKind.{LexKind}
 use Rattle.eq_vlex.specs.declared.fault.LexKind.TheVariants.{BadByte, OpenComment, OpenAttribute}
+use Rattle.eq_vlex.specs.declared.fault.Stop.{Stop}
+use Rattle.eq_vlex.specs.declared.fault.Stop.TheVariants as stop
 use Rattle.eq_vlex.specs.declared.mark.Mark.{Mark}
 use Rattle.eq_vlex.specs.declared.piece.Piece.{Piece}
 use Rattle.eq_vlex.specs.declared.token.TokenKind.{TokenKind}
@@ -58,3 +60,8 @@ BeginsFault text fault = (0 < length text) × IsFault (begins text) text fault
 abbrev pub IsFront : List Piece → List ℕ → List ℕ → Type 0
 IsFront [] text rest = text ≡ rest
 IsFront (piece ∷ pieces) text rest = IsPiece text piece × IsFront pieces (drop piece.len text) rest
+
+-- what stopped the reading of a piece; want of memory says nothing
+abbrev pub Stops : (LexKind → Type 0) → Stop → Type 0
+Stops P (stop.Fault fault) = P fault
+Stops P stop.Memory = ⊤

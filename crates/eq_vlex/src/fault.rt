@@ -4,7 +4,7 @@ ghost use Rattle.std.specs.Prelude.{◌≡◌};
 ghost use Rattle.eq_vlex.specs.declared.fault.LexErr.TheVariants.{Memory as NoMemory};
 ghost use Rattle.eq_vlex.specs.declared.fault.Stop.TheVariants.{Memory as Stopped};
 
-use std::alloc::{AllocError, AllocFailed};
+use std::alloc::AllocError;
 
 /// What is wrong at a place of the text.
 #[derive(Clone, Copy, Debug, PartialEq, Eq)]
@@ -43,4 +43,12 @@ impl From<AllocError> for LexErr {
 pub enum Stop {
     Fault(LexKind),
     Memory,
+}
+
+impl From<AllocError> for Stop {
+    ghost from_gives = { λ _ e. e ≡ Stopped };
+
+    fn from(_: AllocError) -> Stop {
+        Stop::Memory
+    }
 }

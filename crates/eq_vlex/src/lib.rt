@@ -4,14 +4,16 @@
 mod bytes;
 mod fault;
 mod key;
+mod lex;
 mod mark;
 mod number;
 mod piece;
 mod separator;
 mod token;
-// mod word;
+mod word;
 
 pub use fault::{LexErr, LexKind};
 pub use key::Key;
+pub use lex::tokens;
 pub use mark::Mark;
 pub use token::{Constant, Token, TokenKind, Tokens};

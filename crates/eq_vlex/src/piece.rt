@@ -7,8 +7,11 @@ ghost use Rattle.eq_vlex.specs.Pieces as spec;
 
 use crate::bytes::{Class, Start, begins, run};
 use crate::fault::{LexKind, Stop};
+use crate::mark::mark_at;
+use crate::number::number;
 use crate::separator::{attribute_close, comment_close};
 use crate::token::TokenKind;
+use crate::word::{escaped_name, simple_name};
 use std::alloc::Global;
 
 /// A separator or a token.
@@ -47,5 +50,38 @@ fn attribute(text: &[u8]) -> Result<Piece, LexKind>
     match attribute_close(&text[2..]) {
         None => Err(LexKind::OpenAttribute),
         Some(close) => Ok(separator(close + 4)),
+    }
+}
+
+/// The mark at the front of a text.
+fn mark(text: &[u8]) -> Result<Piece, LexKind>
+    ensures ok { IfOk result (λ piece. spec.IsKind Start.Other text.now piece.len piece.kind) }
+    ensures fault { IfErr result (spec.IsFault Start.Other text.now) }
+{
+    match mark_at(text) {
+        None => Err(LexKind::BadByte),
+        Some((mark, len)) => Ok(Piece {
+            len,
+            kind: Some(TokenKind::Mark(mark)),
+        }),
+    }
+}
+
+/// The separator or token at the front of a text.
+pub fn front_piece(alloc: Global, text: &[u8]) -> Result<Piece, Stop>
+    requires some { 0 < length text.now }
+    requires within { length text.now ≤ 67_108_864 }
+    ensures ok { IfOk result (spec.IsPiece text.now) }
+    ensures fault { IfErr result (spec.Stops (spec.IsFault (begins text.now) text.now)) }
+{
+    match begins(text) {
+        Start::White => Ok(separator(run(Class::White, text).len())),
+        Start::LineComment => Ok(separator(run(Class::Line, text).len())),
+        Start::BlockComment => block_comment(text).map_err(Stop::Fault),
+        Start::Attribute => attribute(text).map_err(Stop::Fault),
+        Start::SimpleName => Ok(simple_name(alloc, text)?),
+        Start::EscapedName => escaped_name(alloc, text),
+        Start::Number => number(text).map_err(Stop::Fault),
+        Start::Other => mark(text).map_err(Stop::Fault),
     }
 }
