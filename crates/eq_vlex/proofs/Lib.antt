@@ -5,3 +5,5 @@ pub mod Beginnings
 pub mod Naming
 pub mod Moves
 pub mod Steps
+pub mod Unique
+pub mod Whole
