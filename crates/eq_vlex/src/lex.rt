@@ -37,8 +37,8 @@ fn put_token(tokens: &mut Tokens, at: u32, piece: Piece) -> Result<(), Memory>
     }
 }
 
-/// The tokens of a text, or its first fault.
-pub fn tokens(alloc: Global, text: &[u8]) -> Result<Tokens, LexErr>
+/// Reads pieces from the first byte to the last.
+fn read_pieces(alloc: Global, text: &[u8]) -> Result<Tokens, LexErr>
     requires { length text.now ≤ 67_108_864 }
     ensures ok { IfOk result (spec.HasTokens text.now) }
     ensures fault { IfErr result (spec.Explains text.now) }
@@ -55,4 +55,35 @@ pub fn tokens(alloc: Global, text: &[u8]) -> Result<Tokens, LexErr>
         at += len;
     }
     Ok(tokens)
+}
+
+/// The tokens of a text, or its first fault.
+pub fn tokens(alloc: Global, text: &[u8]) -> Result<Tokens, LexErr>
+    requires { length text.now ≤ 67_108_864 }
+
+    // What is answered is so,
+    ensures ok { IfOk result (spec.HasTokens text.now) }
+    ensures fault { IfErr result (spec.Explains text.now) }
+    ensures spans { IfOk result (spec.AreInOrder 0 (length text.now)) }
+
+    // and what is so is answered.
+    ensures only_tokens { (tokens : List Token) → spec.HasTokens text.now tokens → spec.IsOrNoMemory result (Ok tokens) }
+    ensures only_fault { (at : ℕ) (kind : LexKind) → spec.HasFault text.now at kind → spec.IsOrNoMemory result (Err (LexErr.At at kind)) }
+{
+    read_pieces(alloc, text)
+}
+
+/// The line of a place: 1, and one more for each line feed before the place.
+pub fn line_of(text: &[u8], at: u32) -> u32
+    requires { length text.now ≤ 67_108_864 }
+    ensures { result ≡ spec.line_at text.now at }
+{
+    let before = &text[..text.len().min(at as usize)];
+    let mut line = 1;
+    for byte in before {
+        if *byte == b'\n' {
+            line += 1;
+        }
+    }
+    line
 }

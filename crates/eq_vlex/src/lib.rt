@@ -14,6 +14,6 @@ mod word;
 
 pub use fault::{LexErr, LexKind};
 pub use key::Key;
-pub use lex::tokens;
+pub use lex::{line_of, tokens};
 pub use mark::Mark;
 pub use token::{Constant, Token, TokenKind, Tokens};

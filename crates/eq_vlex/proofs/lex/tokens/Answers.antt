@@ -1,27 +1,11 @@
-use Rattle.std.proofs.Common.{arith}
-use Rattle.eq_vlex.proofs.Steps.{next_within, piece_at, reached_more}
+use Rattle.eq_vlex.proofs.Whole.{spans_of, only_list, only_fault}
 use Rattle.eq_vlex.proofs.lex.tokens.Goals as goal
 
-pub put_token-requires : goal.put_token-requires
-put_token-requires c =
-    let inside = next_within c.args.text.now c.loop-at.at c.in-Ok.piece c.loop-at-test.true c.in-Ok.ensures.ok in
-    omega (arith, inside, c.requires)
+pub returns-clause-spans : goal.returns-clause-spans
+returns-clause-spans c = spans_of c.args.text.now c.read_pieces.result c.read_pieces.ensures.ok
 
-pub overflow_add-at : goal.overflow_add-at
-overflow_add-at c =
-    let inside = next_within c.args.text.now c.loop-at.at c.in-Ok.piece c.loop-at-test.true c.in-Ok.ensures.ok in
-    omega (arith, inside, c.requires)
+pub returns-clause-only_tokens : goal.returns-clause-only_tokens
+returns-clause-only_tokens c = only_list c.args.text.now c.read_pieces.result c.read_pieces.ensures.ok c.read_pieces.ensures.fault
 
-pub loop-at-smaller : goal.loop-at-smaller
-loop-at-smaller c =
-    let inside = next_within c.args.text.now c.loop-at.at c.in-Ok.piece c.loop-at-test.true c.in-Ok.ensures.ok in
-    omega (arith, inside, c.loop-at-test.true)
-
-pub loop-at-preserved : goal.loop-at-preserved
-loop-at-preserved c =
-    let inside = next_within c.args.text.now c.loop-at.at c.in-Ok.piece c.loop-at-test.true c.in-Ok.ensures.ok in
-    let piece = piece_at c.args.text.now c.loop-at.at c.in-Ok.piece c.in-Ok.ensures.ok in
-    record {
-      reached = reached_more c.args.text.now c.loop-at.at c.loop-at.tokens c.put_token.new.tokens c.in-Ok.piece c.loop-at.invariant.reached piece c.in_ok-put_token.ensures;
-      within = inside.1;
-    }
+pub returns-clause-only_fault : goal.returns-clause-only_fault
+returns-clause-only_fault c = only_fault c.args.text.now c.read_pieces.result c.read_pieces.ensures.ok c.read_pieces.ensures.fault
