@@ -26,8 +26,8 @@ pub run_is_name : (c : Class) → ((b : ℕ) → is_in c b ≡ true → IsNameBy
 run_is_name c visible text run run-is some =
     let n : ℕ = prefix_len (is_in c) text in
     let each : (i : ℕ) → i < length (take n text) → IsNameByte (get_or (take n text) i 0) = λ i lt.
-        let within : i < n = omega (arith, lt, length-take n text) in
-        rw (get_or-take n text i 0 within) (visible (get_or text i 0) (prefix_len_passes (is_in c) text i 0 within)) in
+    let within : i < n = omega (arith, lt, length-take n text) in
+    rw (get_or-take n text i 0 within) (visible (get_or text i 0) (prefix_len_passes (is_in c) text i 0 within)) in
     record {
       some = λ nil. let none = ap (λ (xs : List ℕ). length xs) nil in absurd (omega (arith, none, some));
       bytes = All-same IsNameByte run (take n text) run-is (All-from_get_or IsNameByte (take n text) 0 each);

@@ -52,9 +52,9 @@ reached_more text at tokens more p reached h more-is =
       at_is = ap (λ (k : ℕ). k + p.len) reached.at_is ∙ sym (bytes_push ps p);
       tokens_are = more-is ∙ ap (λ (k : ℕ). tokens ++ token_of p.kind k p.len) reached.at_is ∙ ap (λ (ts : List Token). ts ++ token_of p.kind (bytes_in ps) p.len) reached.tokens_are ∙ ap (λ (k : ℕ). tokens_from 0 ps ++ token_of p.kind k p.len) none ∙ sym (tokens_push 0 ps p);
     }
-    where
-      none : bytes_in reached.pieces ≡ 0 + bytes_in reached.pieces
-      none = omega arith
+  where
+    none : bytes_in reached.pieces ≡ 0 + bytes_in reached.pieces
+    none = omega arith
 
 pub reached_all : (text : List ℕ) (at : ℕ) (tokens : List Token) → length text ≤ at → IsReached text at tokens → HasTokens text tokens
 reached_all text at tokens end reached = record {

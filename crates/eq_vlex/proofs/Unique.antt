@@ -57,15 +57,15 @@ digit_known : (base b : ℕ) → base ≤ 16 → (is_digit_of base b || eqb b 95
 digit_known base b small digit = false_from_ne_true (is_unknown b) (λ unknown.
     elim (or_cases (eqb b 120 || eqb b 88 || eqb b 122 || eqb b 90) (eqb b 63) unknown) [
       | inl first ↦ elim (or_cases (eqb b 120 || eqb b 88 || eqb b 122) (eqb b 90) first) [
-          | inl second ↦ elim (or_cases (eqb b 120 || eqb b 88) (eqb b 122) second) [
-              | inl third ↦ elim (or_cases (eqb b 120) (eqb b 88) third) [
-                  | inl fourth ↦ no_digit base b 120 small digit (eqb-true b 120 fourth) (omega arith) refl
-                  | inr fourth ↦ no_digit base b 88 small digit (eqb-true b 88 fourth) (omega arith) refl
-                ]
-              | inr third ↦ no_digit base b 122 small digit (eqb-true b 122 third) (omega arith) refl
-            ]
-          | inr second ↦ no_digit base b 90 small digit (eqb-true b 90 second) (omega arith) refl
+        | inl second ↦ elim (or_cases (eqb b 120 || eqb b 88) (eqb b 122) second) [
+          | inl third ↦ elim (or_cases (eqb b 120) (eqb b 88) third) [
+            | inl fourth ↦ no_digit base b 120 small digit (eqb-true b 120 fourth) (omega arith) refl
+            | inr fourth ↦ no_digit base b 88 small digit (eqb-true b 88 fourth) (omega arith) refl
+          ]
+          | inr third ↦ no_digit base b 122 small digit (eqb-true b 122 third) (omega arith) refl
         ]
+        | inr second ↦ no_digit base b 90 small digit (eqb-true b 90 second) (omega arith) refl
+      ]
       | inr first ↦ no_digit base b 63 small digit (eqb-true b 63 first) (omega arith) refl
     ])
 
@@ -87,10 +87,10 @@ sized_known bits tail c sized =
     let known = digits_known base (drop 1 tail) (base_small (get_or tail 0 0)) digits in
     let plain : (ltb 0 (base_of (get_or tail 0 0)) && list_any is_unknown (drop 1 tail)) ≡ false = rw known (and_false (ltb 0 (base_of (get_or tail 0 0)))) in
     subst (λ (t : List ℕ). (ltb 0 (base_of (get_or t 0 0)) && list_any is_unknown (drop 1 t)) ≡ false) (sym (all_unsigned tail sized.base)) plain
-    where
-      and_false : (x : Bool) → (x && false) ≡ false
-      and_false true = refl
-      and_false false = refl
+  where
+    and_false : (x : Bool) → (x && false) ≡ false
+    and_false true = refl
+    and_false false = refl
 
 sized_not_bad : (bits : ℕ) (tail : List ℕ) (c : Constant) (f : LexKind) → IsSized bits tail c → IsBadSized bits tail f → ⊥
 sized_not_bad bits tail c XValue a bad = true≢false (sym bad ∙ sized_known bits tail c a)

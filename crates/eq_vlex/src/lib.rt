@@ -17,3 +17,6 @@ pub use key::Key;
 pub use lex::{line_of, tokens};
 pub use mark::Mark;
 pub use token::{Constant, Token, TokenKind, Tokens};
+
+#[cfg(test)]
+mod tests;
