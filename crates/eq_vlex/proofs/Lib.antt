@@ -7,3 +7,5 @@ pub mod Moves
 pub mod Steps
 pub mod Unique
 pub mod Whole
+pub mod Total
+pub mod Longest

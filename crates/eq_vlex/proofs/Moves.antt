@@ -35,7 +35,7 @@ run_within : (c : Class) (text : List ℕ) (len : ℕ) → len ≡ prefix_len (i
 run_within c text len len-is some = (omega arith, omega (arith, prefix_len-le-length (is_in c) text))
 
 -- a byte that is not 0 stands in the list
-stands : (text : List ℕ) (k b : ℕ) → get_or text k 0 ≡ suc b → k < length text
+pub stands : (text : List ℕ) (k b : ℕ) → get_or text k 0 ≡ suc b → k < length text
 stands text k b e =
     elim (cases_lt k (length text)) [
       | inl lt ↦ lt

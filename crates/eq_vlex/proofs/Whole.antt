@@ -1,7 +1,8 @@
 -- A text has one list of tokens or one first fault, and not both; spans are in order.
-use Rattle.std.proofs.Common.{◌≡◌, ℕ, ◌+◌, ◌<◌, ◌≤◌, List, [], ◌∷◌, ◌++◌, length, drop, Option, Some, None, Result, Ok, Err, refl, sym, ap, subst, ◌∙◌, arith, inl, inr}
+use Rattle.std.proofs.Common.{◌≡◌, ℕ, ◌+◌, ◌-◌, ◌<◌, ◌≤◌, List, [], ◌∷◌, ◌++◌, length, drop, Option, Some, None, Result, Ok, Err, refl, sym, ap, subst, ◌∙◌, arith, inl, inr}
 use Rattle.std.specs.Prelude.{IfOk, IfErr}
-use Rattle.std.proofs.lemmas.List.{length-drop}
+use Rattle.std.specs.List.{AllByRecursion}
+use Rattle.std.proofs.lemmas.List.{length-drop, drop-drop}
 use Rattle.eq_vlex.specs.declared.fault.LexKind.{LexKind}
 use Rattle.eq_vlex.specs.declared.fault.LexErr.{LexErr}
 use Rattle.eq_vlex.specs.declared.fault.LexErr.TheVariants as error
@@ -9,7 +10,7 @@ use Rattle.eq_vlex.specs.declared.piece.Piece.{Piece}
 use Rattle.eq_vlex.specs.declared.token.Token.{Token}
 use Rattle.eq_vlex.specs.declared.token.TokenKind.{TokenKind}
 use Rattle.eq_vlex.specs.Bytes.{begins}
-use Rattle.eq_vlex.specs.Pieces.{IsPiece, IsFront, BeginsFault}
+use Rattle.eq_vlex.specs.Pieces.{IsKind, IsLexeme, IsPiece, IsFront, BeginsFault}
 use Rattle.eq_vlex.specs.Tokens.{token_of, tokens_from, bytes_in, HasTokens, HasFault, Explains, AreInOrder, IsOrNoMemory}
 use Rattle.eq_vlex.proofs.Moves.{piece_within}
 use Rattle.eq_vlex.proofs.Unique.{kind_unique, fault_unique, kind_not_bad}
@@ -114,3 +115,26 @@ only_fault text (Err (error.At i g)) ok err at f h =
     let same = one_fault text i at g f err h in
     inl (λ k. Err (error.At (same.0 k) (same.1 k)))
 only_fault text (Err error.Memory) ok err at f h = inr refl
+
+-- ---- each token at its span
+
+abbrev Stands : List ℕ → Token → Type 0
+Stands text t = IsLexeme (begins (drop t.start text)) (drop t.start text) (t.end - t.start) t.kind
+
+put_token_there : (text : List ℕ) (p : Piece) (at : ℕ) (ts : List Token) → IsPiece (drop at text) p → AllByRecursion (Stands text) ts → AllByRecursion (Stands text) (token_of p.kind at p.len ++ ts)
+put_token_there text p at ts h all = there text p.len at p.kind ts h all
+  where
+    there : (text : List ℕ) (len at : ℕ) (kind : Option TokenKind) (ts : List Token) → IsKind (begins (drop at text)) (drop at text) len kind → AllByRecursion (Stands text) ts → AllByRecursion (Stands text) (token_of kind at len ++ ts)
+    there text len at None ts h all = all
+    there text len at (Some kind) ts h all =
+        let same : len ≡ (at + len) - at = omega arith in
+        (subst (λ (n : ℕ). IsLexeme (begins (drop at text)) (drop at text) n kind) same h, all)
+
+pieces_stand : (text : List ℕ) (at : ℕ) (ps : List Piece) → IsFront ps (drop at text) [] → AllByRecursion (Stands text) (tokens_from at ps)
+pieces_stand text at [] front = tt
+pieces_stand text at (p ∷ ps) front =
+    let rest = subst (λ (t : List ℕ). IsFront ps t []) (drop-drop p.len at text) front.1 in
+    put_token_there text p at (tokens_from (at + p.len) ps) front.0 (pieces_stand text (at + p.len) ps rest)
+
+pub tokens_stand : (text : List ℕ) (ts : List Token) → HasTokens text ts → AllByRecursion (Stands text) ts
+tokens_stand text ts h = subst (λ (us : List Token). AllByRecursion (Stands text) us) (sym h.tokens_are) (pieces_stand text 0 h.pieces h.whole)

@@ -1,5 +1,6 @@
 -- Marks, the longest first (IEEE 1364-2005, 5.1).
-use Rattle.std.specs.Prelude.{ℕ, if◌then◌else◌, List, [], ◌∷◌, take, length, Option, Some, None, codes}
+use Rattle.std.specs.Prelude.{◌≡◌, ◌≤◌, true, ℕ, if◌then◌else◌, List, [], ◌∷◌, take, length, Option, Some, None, codes}
+use Rattle.std.specs.List.{AllByRecursion}
 use Rattle.std.specs.Str.{bytes_eq}
 use Rattle.eq_vlex.specs.declared.mark.Mark.{Mark}
 use Rattle.eq_vlex.specs.declared.mark.Mark.TheVariants as mark
@@ -25,3 +26,11 @@ first_row (row ∷ rows) text = if bytes_eq row.0 (take (length row.0) text) the
 -- the longest mark that the text begins with
 unfoldable pub mark_at : List ℕ → Option (Mark × ℕ)
 mark_at text = first_row marks text
+
+-- the text begins with these bytes
+abbrev pub Begins : List ℕ → List ℕ → Type 0
+Begins text bytes = bytes_eq bytes (take (length bytes) text) ≡ true
+
+-- no mark that the text begins with is longer
+abbrev pub IsLongest : List ℕ → ℕ → Type 0
+IsLongest text len = AllByRecursion (λ row. Begins text row.0 → length row.0 ≤ len) marks

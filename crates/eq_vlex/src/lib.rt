@@ -4,6 +4,7 @@
 mod bytes;
 mod fault;
 mod key;
+pub mod laws;
 mod lex;
 mod mark;
 mod number;
