@@ -45,7 +45,7 @@ pub fn is_in(class: Class, byte: u8) -> bool
         Class::White => matches!(byte, b' ' | b'\t' | b'\r' | b'\n' | 0x0C),
         Class::Line => byte != b'\n',
         Class::Simple => byte.is_ascii_alphanumeric() || byte == b'_' || byte == b'$',
-        Class::Visible => 0x21 <= byte && byte <= 0x7E,
+        Class::Visible => (0x21..=0x7E).contains(&byte),
         Class::Decimal => byte.is_ascii_digit() || byte == b'_',
         Class::Word => byte.is_ascii_alphanumeric() || byte == b'_',
         Class::Value => byte.is_ascii_alphanumeric() || byte == b'_' || byte == b'?',
@@ -56,7 +56,7 @@ pub fn is_in(class: Class, byte: u8) -> bool
 pub fn byte(text: &[u8], at: usize) -> u8
     ensures { result ≡ slice_index text.now at }
 {
-    if at < text.len() { text[at] } else { 0 }
+    text.get(at).copied().unwrap_or(0)
 }
 
 /// How many bytes of the class stand at the front.

@@ -175,13 +175,8 @@ fn sized(front: &[u8], tail: &[u8]) -> Result<Constant, LexKind>
     if has_unknown(tail) {
         return Err(LexKind::XValue);
     }
-    match size_of(front) {
-        None => Err(LexKind::TooWide),
-        Some(size) => match constant(size, tail) {
-            None => Err(LexKind::BadNumber),
-            Some(constant) => Ok(constant),
-        },
-    }
+    let size = size_of(front).ok_or(LexKind::TooWide)?;
+    constant(size, tail).ok_or(LexKind::BadNumber)
 }
 
 /// A decimal, if it is below 2^31 and nothing stands behind it.
@@ -214,13 +209,11 @@ fn plain_number(front: &[u8], tail: &[u8]) -> Result<Piece, LexKind>
     ensures ok { IfOk result (λ piece. IsSomeAnd piece.kind (spec.IsNumberOf false front.now tail.now piece.len)) }
     ensures fault { IfErr result (spec.IsBadNumberOf false front.now tail.now) }
 {
-    match decimal(front, tail) {
-        None => Err(LexKind::BadNumber),
-        Some(value) => Ok(Piece {
-            len: front.len() + tail.len(),
-            kind: Some(TokenKind::Decimal(value)),
-        }),
-    }
+    let value = decimal(front, tail).ok_or(LexKind::BadNumber)?;
+    Ok(Piece {
+        len: front.len() + tail.len(),
+        kind: Some(TokenKind::Decimal(value)),
+    })
 }
 
 /// The number at the front of a text.

@@ -35,10 +35,8 @@ fn block_comment(text: &[u8]) -> Result<Piece, LexKind>
     ensures ok { IfOk result (λ piece. spec.IsKind Start.BlockComment text.now piece.len piece.kind) }
     ensures fault { IfErr result (spec.IsFault Start.BlockComment text.now) }
 {
-    match comment_close(&text[2..]) {
-        None => Err(LexKind::OpenComment),
-        Some(close) => Ok(separator(close + 4)),
-    }
+    let close = comment_close(&text[2..]).ok_or(LexKind::OpenComment)?;
+    Ok(separator(close + 4))
 }
 
 /// The attribute at the front of a text that begins with `(*`.
@@ -47,10 +45,8 @@ fn attribute(text: &[u8]) -> Result<Piece, LexKind>
     ensures ok { IfOk result (λ piece. spec.IsKind Start.Attribute text.now piece.len piece.kind) }
     ensures fault { IfErr result (spec.IsFault Start.Attribute text.now) }
 {
-    match attribute_close(&text[2..]) {
-        None => Err(LexKind::OpenAttribute),
-        Some(close) => Ok(separator(close + 4)),
-    }
+    let close = attribute_close(&text[2..]).ok_or(LexKind::OpenAttribute)?;
+    Ok(separator(close + 4))
 }
 
 /// The mark at the front of a text.
@@ -58,13 +54,11 @@ fn mark(text: &[u8]) -> Result<Piece, LexKind>
     ensures ok { IfOk result (λ piece. spec.IsKind Start.Other text.now piece.len piece.kind) }
     ensures fault { IfErr result (spec.IsFault Start.Other text.now) }
 {
-    match mark_at(text) {
-        None => Err(LexKind::BadByte),
-        Some((mark, len)) => Ok(Piece {
-            len,
-            kind: Some(TokenKind::Mark(mark)),
-        }),
-    }
+    let (mark, len) = mark_at(text).ok_or(LexKind::BadByte)?;
+    Ok(Piece {
+        len,
+        kind: Some(TokenKind::Mark(mark)),
+    })
 }
 
 /// The separator or token at the front of a text.
