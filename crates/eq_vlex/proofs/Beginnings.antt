@@ -24,9 +24,6 @@ attribute_is a b e = grind arith
 simple_is : (a b : ℕ) → start_of a b ≡ start.SimpleName → (is_ascii_alphabetic a || eqb a 95) ≡ true
 simple_is a b e = grind arith
 
-escaped_is : (a b : ℕ) → start_of a b ≡ start.EscapedName → eqb a 92 ≡ true
-escaped_is a b e = grind arith
-
 number_is : (a b : ℕ) → start_of a b ≡ start.Number → (is_ascii_digit a || eqb a 39) ≡ true
 number_is a b e = grind arith
 

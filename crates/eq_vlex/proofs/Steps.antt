@@ -1,14 +1,11 @@
 -- Reading one piece after the other.
-use Rattle.std.proofs.Common.{◌≡◌, ℕ, ◌+◌, ◌-◌, ◌<◌, ◌≤◌, List, [], ◌∷◌, ◌++◌, length, take, drop, refl, sym, ap, subst, ◌∙◌, append_assoc, arith}
-use Rattle.std.proofs.lemmas.List.{append-nil, drop-drop, drop_all, length-drop, take_rest}
-use Rattle.eq_vlex.specs.declared.fault.Stop.{Stop}
-use Rattle.eq_vlex.specs.declared.fault.Stop.TheVariants as stop
+use Rattle.std.proofs.Common.{◌≡◌, ℕ, ◌+◌, ◌-◌, ◌<◌, ◌≤◌, List, [], ◌∷◌, ◌++◌, length, take, drop, sym, ap, subst, ◌∙◌, append_assoc, arith}
+use Rattle.std.proofs.lemmas.List.{append-nil, drop-drop, length-drop, take_rest}
 use Rattle.eq_vlex.specs.declared.piece.Piece.{Piece}
 use Rattle.eq_vlex.specs.declared.token.Token.{Token}
-use Rattle.eq_vlex.specs.Bytes.{begins}
-use Rattle.eq_vlex.specs.Pieces.{IsPiece, IsFront, IsFault, Stops}
+use Rattle.eq_vlex.specs.Pieces.{IsPiece, IsFront}
 use Rattle.eq_vlex.proofs.Moves.{piece_within}
-use Rattle.eq_vlex.specs.Tokens.{token_of, tokens_from, bytes_in, HasTokens, Explains, located}
+use Rattle.eq_vlex.specs.Tokens.{token_of, tokens_from, bytes_in}
 
 -- ---- one more piece at the end
 
@@ -38,9 +35,6 @@ pub record IsReached (text : List ℕ) (at : ℕ) (tokens : List Token) : Type 0
   pub at_is : at ≡ bytes_in pieces
   pub tokens_are : tokens ≡ tokens_from 0 pieces
 
-pub reached_none : (text : List ℕ) (tokens : List Token) → tokens ≡ [] → IsReached text 0 tokens
-reached_none text tokens e = record { pieces = []; front = refl; at_is = refl; tokens_are = e }
-
 pub reached_more : (text : List ℕ) (at : ℕ) (tokens more : List Token) (p : Piece) → IsReached text at tokens → IsPiece (drop at text) p
     → more ≡ tokens ++ token_of p.kind at p.len → IsReached text (at + p.len) more
 reached_more text at tokens more p reached h more-is =
@@ -55,24 +49,6 @@ reached_more text at tokens more p reached h more-is =
   where
     none : bytes_in reached.pieces ≡ 0 + bytes_in reached.pieces
     none = omega arith
-
-pub reached_all : (text : List ℕ) (at : ℕ) (tokens : List Token) → length text ≤ at → IsReached text at tokens → HasTokens text tokens
-reached_all text at tokens end reached = record {
-  pieces = reached.pieces;
-  whole = subst (λ (t : List ℕ). IsFront reached.pieces text t) (drop_all at text end) reached.front;
-  tokens_are = reached.tokens_are;
-}
-
--- what stopped the reading explains the error
-pub stopped : (text : List ℕ) (at : ℕ) (tokens : List Token) (why : Stop) → at < length text → IsReached text at tokens → Stops (IsFault (begins (drop at text)) (drop at text)) why → Explains text (located why at)
-stopped text at tokens (stop.Fault fault) within reached h = record {
-  pieces = reached.pieces;
-  rest = drop at text;
-  front = reached.front;
-  at_is = reached.at_is;
-  fault_is = (omega (arith, length-drop at text), h);
-}
-stopped text at tokens stop.Memory within reached h = tt
 
 -- the piece at a place, as the code reads it
 pub piece_at : (text : List ℕ) (at : ℕ) (p : Piece) → IsPiece (take (length text - at) (drop at text)) p → IsPiece (drop at text) p
