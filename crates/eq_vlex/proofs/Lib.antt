@@ -1,0 +1,11 @@
+pub mod Tables
+pub mod Values
+pub mod Numbering
+pub mod Beginnings
+pub mod Naming
+pub mod Moves
+pub mod Steps
+pub mod Unique
+pub mod Whole
+pub mod Total
+pub mod Longest
