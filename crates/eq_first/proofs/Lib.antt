@@ -1,0 +1,11 @@
+pub mod Operands
+pub mod Texts
+pub mod Jobs
+pub mod Lexed
+pub mod Runs
+pub mod Headed
+pub mod Sentences
+pub mod Parsed
+pub mod Designs
+pub mod Modules
+pub mod Operators

@@ -1,0 +1,16 @@
+pub mod Value
+pub mod Well
+pub mod Configuration
+pub mod Lines
+pub mod JobWords
+pub mod Tokens
+pub mod Phrases
+pub mod Design
+pub mod Lexing
+pub mod Reserved
+pub mod Header
+pub mod Headers
+pub mod Machine
+pub mod Machines
+pub mod Sentence
+pub mod Entries
