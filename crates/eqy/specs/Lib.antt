@@ -1,0 +1,10 @@
+pub mod Netlist
+pub mod NetlistOf
+pub mod Inputs
+pub mod Listing
+pub mod Lines
+pub mod Output
+pub mod Command
+pub mod Stops
+pub mod Tasks
+pub mod Verdicts
