@@ -6,7 +6,7 @@ use Rattle.std.specs.Bool.{Decides}
 use Rattle.std.proofs.lemmas.Bool.{and_parts, leb-true, le-leb, eqb-true, eq-eqb, ne_eqb, cases_Bool}
 use Rattle.std.proofs.lemmas.Bool.Decides.{Decides-by_and, Decides-and, Decides-or, Decides-eqb}
 use Rattle.std.proofs.lemmas.List.{take-append-drop, take_at, drop_at, append-nil}
-use Rattle.std.proofs.lemmas.List.Elements.{All-nil, All-append, All-head}
+use Rattle.std.proofs.lemmas.List.Elements.{All-nil, All-append}
 use Rattle.std.proofs.lemmas.Option.{some_pair_parts, same_Some, none-some}
 use Rattle.eq_first.specs.declared.token.Mark.{Mark}
 use Rattle.eq_first.specs.declared.token.Mark.TheVariants.{Open, Close, Comma, Semicolon, Equals, Not, And, Xor, Or}
@@ -205,10 +205,6 @@ token_no_space : (t : Token) (rest : List ℕ) → IsToken t → Stops is_space 
 token_no_space (word []) rest h = absurd h
 token_no_space (word (b ∷ bs)) rest h = begin_no_space b h.0
 token_no_space (mark m) rest h = mark_no_space m
-
-no_more_space : (rest : List ℕ) → All IsSpace rest → Stops is_space rest → rest ≡ []
-no_more_space [] h s = refl
-no_more_space (b ∷ rest) h s = absurd (not_from_false (is_space b) s ((space-Decides b).1 (All-head IsSpace b rest h)))
 
 skip_all : (text : List ℕ) → All IsSpace text → skip text ≡ []
 skip_all text h = ap skip (sym (append-nil text)) ∙ skip_gap text [] h tt

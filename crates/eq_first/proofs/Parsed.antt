@@ -258,12 +258,6 @@ abbrev pub Low : ℕ → List Pending → Type 0
 Low level [] = Unit {0}
 Low level (p ∷ ps) = binding p < level
 
-four : (p : Phrase) → strength p ≤ 4
-four (named w) = omega arith
-four (grouped p) = omega arith
-four (negated p) = omega arith
-four (joined o p q) = omega (arith, most o)
-
 reduces : (ports : List Port) (level : ℕ) (x : Expr) (ps : List Pending) (front : List Token) → 1 ≤ level → level ≤ 4 → Has ports ps x front level
     → Has ports (reduce level x ps).1 (reduce level x ps).0 front level × Low level (reduce level x ps).1
 reduces ports level x [] front low high h = (h, tt)
