@@ -1,0 +1,25 @@
+-- Literals (DIMACS CNF: a variable's number, negative where the literal is its negation).
+use Rattle.std.specs.Prelude.{◌≡◌, ℕ, ◌+◌, ◌*◌, ◌/◌, ◌%◌, ◌<◌, ◌==◌, Bool, true, false, cond, not}
+use Rattle.std.specs.Coded.{Coded, code_by, coded×, coded_ℕ, coded_bool}
+use Rattle.std.proofs.Common.{arith}
+use Rattle.std.proofs.lemmas.Bool.Decides.{nat_tests}
+
+-- a variable with a sign
+pub record Literal : Type 0 where
+  pub var : ℕ
+  pub positive : Bool
+
+-- the literal of the same variable with the other sign
+abbrev pub negation : Literal → Literal
+negation l = record { var = l.var; positive = not l.positive }
+
+-- the number that stands for a literal in memory, which keeps the literals' order
+abbrev pub code_of : Literal → ℕ
+code_of l = 2 * l.var + cond l.positive 0 1
+
+-- the literal that a number stands for
+abbrev pub literal_of : ℕ → Literal
+literal_of n = record { var = n / 2; positive = n % 2 == 0 }
+
+pub code_of-literal_of : (n : ℕ) → code_of (literal_of n) ≡ n
+code_of-literal_of n = grind (arith, nat_tests)
