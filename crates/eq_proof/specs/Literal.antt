@@ -1,7 +1,7 @@
 -- Literals (DIMACS CNF: a variable's number, negative where the literal is its negation).
 use Rattle.std.specs.Prelude.{◌≡◌, ℕ, ◌+◌, ◌*◌, ◌/◌, ◌%◌, ◌<◌, ◌==◌, Bool, true, false, cond, not}
 use Rattle.std.specs.Coded.{Coded, code_by, coded×, coded_ℕ, coded_bool}
-use Rattle.std.proofs.Common.{arith}
+use Rattle.std.proofs.Common.{arith, ap₂}
 use Rattle.std.proofs.lemmas.Bool.Decides.{nat_tests}
 
 -- a variable with a sign
@@ -23,3 +23,7 @@ literal_of n = record { var = n / 2; positive = n % 2 == 0 }
 
 pub code_of-literal_of : (n : ℕ) → code_of (literal_of n) ≡ n
 code_of-literal_of n = grind (arith, nat_tests)
+
+-- two literals of one variable and one sign
+pub literal_is : (a b : Literal) → a.var ≡ b.var → a.positive ≡ b.positive → a ≡ b
+literal_is a b e f = ap₂ (λ (n : ℕ) (p : Bool). let l : Literal = record { var = n; positive = p } in l) e f
