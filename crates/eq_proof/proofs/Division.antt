@@ -1,6 +1,6 @@
 -- Lists of lists that are kept in one array: their rows, and a row more.
-use Rattle.std.proofs.Common.{◌≡◌, ℕ, ◌+◌, ◌-◌, ◌<◌, ◌≤◌, suc, zero, List, [], ◌∷◌, ◌++◌, length, Some, slice_get, get_or, take, drop, arith, refl, ap, ◌∙◌, sym, add-one, length-append, length-drop, subst}
-use Rattle.std.proofs.lemmas.List.{drop_at, take_all, drop-append-le, take-append-le, nil_from_length}
+use Rattle.std.proofs.Common.{◌≡◌, ℕ, ◌+◌, ◌-◌, ◌<◌, ◌≤◌, suc, zero, List, [], ◌∷◌, ◌++◌, length, Some, slice_get, take, drop, arith, refl, ap, ◌∙◌, sym, length-drop, subst}
+use Rattle.std.proofs.lemmas.List.{drop_at, take_all, drop-append-le, take-append-le, length-take-le, take-append-drop}
 use Rattle.std.specs.Prelude.{slice_range, slice_index}
 use Rattle.eq_proof.specs.Rows.{parts_of, IsDivision, start_at}
 
@@ -47,3 +47,43 @@ row_more items more from [] d =
     ap (λ row. row ∷ []) (ap (take (length items + length more - from)) (drop_at items more from (sym d)) ∙ take_all _ more whole)
 row_more items more from (end ∷ ends) d =
     rw (same_part items more from end d.0 (begins_within (length items) end ends d.1)) (ap (λ rows. slice_range items from end ∷ rows) (row_more items more end ends d.1))
+
+-- the first rows
+pub IsDivision-take : (len from : ℕ) (ends : List ℕ) (rows : ℕ) → IsDivision len from ends → rows ≤ length ends → IsDivision (start_at from ends rows) from (take rows ends)
+IsDivision-take len from ends zero d h = refl
+IsDivision-take len from [] (suc rows) d h = absurd (omega arith)
+IsDivision-take len from (end ∷ ends) (suc rows) d h =
+    let P : ℕ → Type 0 = λ len. IsDivision len end (take rows ends) in
+    (d.0, subst P (sym (start_next from end ends rows)) (IsDivision-take len end ends rows d.1 (omega arith)))
+
+-- of a longer list the same rows
+same_rows : {X : Type 0} (items more : List X) (from : ℕ) (ends : List ℕ) → IsDivision (length items) from ends → parts_of (items ++ more) from ends ≡ parts_of items from ends
+same_rows items more from [] d = refl
+same_rows items more from (end ∷ ends) d =
+    rw (same_part items more from end d.0 (begins_within (length items) end ends d.1)) (ap (λ rows. slice_range items from end ∷ rows) (same_rows items more end ends d.1))
+
+parts-take : {X : Type 0} (items : List X) (from : ℕ) (ends : List ℕ) (rows : ℕ) → parts_of items from (take rows ends) ≡ take rows (parts_of items from ends)
+parts-take items from ends zero = refl
+parts-take items from [] (suc rows) = refl
+parts-take items from (end ∷ ends) (suc rows) = ap (λ rest. slice_range items from end ∷ rest) (parts-take items end ends rows)
+
+-- where the first rows end is within the list
+start_within : (len from : ℕ) (ends : List ℕ) (rows : ℕ) → IsDivision len from ends → rows ≤ length ends → start_at from ends rows ≤ len
+start_within len from ends zero d h = begins_within len from ends d
+start_within len from [] (suc rows) d h = absurd (omega arith)
+start_within len from (end ∷ ends) (suc rows) d h = rw (start_next from end ends rows) (start_within len end ends rows d.1 (omega arith))
+
+pub rows_taken : {X : Type 0} (items : List X) (from : ℕ) (ends : List ℕ) (rows : ℕ) → IsDivision (length items) from ends → rows ≤ length ends
+    → parts_of (take (start_at from ends rows) items) from (take rows ends) ≡ take rows (parts_of items from ends)
+rows_taken items from ends rows d h =
+    let end = start_at from ends rows in
+    let len : length (take end items) ≡ end = length-take-le end items (start_within (length items) from ends rows d h) in
+    let kept : IsDivision (length (take end items)) from (take rows ends) = rw len (IsDivision-take (length items) from ends rows d h) in
+    sym (same_rows (take end items) (drop end items) from (take rows ends) kept)
+    ∙ ap (λ all. parts_of all from (take rows ends)) (take-append-drop end items)
+    ∙ parts-take items from ends rows
+
+-- and they are a division of what is kept
+pub taken_divides : {X : Type 0} (items : List X) (ends : List ℕ) (rows : ℕ) → IsDivision (length items) 0 ends → rows ≤ length ends → IsDivision (length (take (start_at 0 ends rows) items)) 0 (take rows ends)
+taken_divides items ends rows d h =
+    rw (length-take-le (start_at 0 ends rows) items (start_within (length items) 0 ends rows d h)) (IsDivision-take (length items) 0 ends rows d h)

@@ -1,13 +1,12 @@
 -- After a sort and a `dedup` the literals are a clause's, in order, and the same as before.
-use Rattle.std.proofs.Common.{◌≡◌, ℕ, ◌<◌, ◌+◌, ◌*◌, ◌⊎◌, inl, inr, cond, Bool, true, false, List, [], ◌∷◌, arith, refl, sym, ap, ◌∙◌, eqb, subst}
+use Rattle.std.proofs.Common.{◌≡◌, ℕ, ◌<◌, ◌+◌, ◌*◌, ◌⊎◌, inl, inr, cond, Bool, true, false, List, [], ◌∷◌, arith, refl, eqb}
 use Rattle.std.proofs.lemmas.Bool.{cases_lt}
 use Rattle.std.proofs.lemmas.Bool.Decides.{nat_tests, Decides-eqb}
 use Rattle.std.proofs.lemmas.Cmp.{nat_cmp_total, on_total, nat_eq_equiv, on_equiv}
 use Rattle.std.proofs.lemmas.List.Elements.{All-from_recursion}
-use Rattle.std.proofs.lemmas.List.Filters.{dedup_is}
 use Rattle.std.proofs.lemmas.List.Kept.{IsStrictlySortedBy-dedup, AllPairs-cons, Contains-dedup, Contains-from_dedup}
 use Rattle.std.proofs.lemmas.List.Sorted.{Contains-permutation, IsPermutation-sym}
-use Rattle.std.specs.List.{AllPairs, dedup, Contains, AllByRecursion}
+use Rattle.std.specs.List.{dedup, Contains, AllByRecursion}
 use Rattle.std.specs.List.Sorted.{IsStrictlySortedBy, IsSorted, IsPermutation}
 use Rattle.std.specs.Ordering.{nat_cmp, on, eq_by_cmp}
 use Rattle.std.specs.declared.cmp.Ordering.{Ordering}
@@ -60,6 +59,7 @@ IsClause-dedup ls h = pairs _ (IsStrictlySortedBy-dedup (on_total code_of nat_cm
 
 -- and the same literals
 pub kept : (xs ys : List Literal) → IsPermutation xs ys → (l : Literal) → (Contains (dedup same_literal ys) l → Contains xs l) × (Contains xs l → Contains (dedup same_literal ys) l)
-kept xs ys p l =
-    (λ h. Contains-permutation ys xs l (IsPermutation-sym xs ys p) (Contains-from_dedup same_literal ys l h),
-     λ h. Contains-dedup (on_equiv code_of nat_eq_equiv) same_code ys l (Contains-permutation xs ys l p h))
+kept xs ys p l = (
+  λ h. Contains-permutation ys xs l (IsPermutation-sym xs ys p) (Contains-from_dedup same_literal ys l h),
+  λ h. Contains-dedup (on_equiv code_of nat_eq_equiv) same_code ys l (Contains-permutation xs ys l p h),
+)

@@ -1,3 +1,4 @@
 pub mod Literal
 pub mod Rows
 pub mod Clause
+pub mod Inference

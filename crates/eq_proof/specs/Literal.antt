@@ -1,6 +1,5 @@
 -- Literals (DIMACS CNF: a variable's number, negative where the literal is its negation).
-use Rattle.std.specs.Prelude.{◌≡◌, ℕ, ◌+◌, ◌*◌, ◌/◌, ◌%◌, ◌<◌, ◌==◌, Bool, true, false, cond, not}
-use Rattle.std.specs.Coded.{Coded, code_by, coded×, coded_ℕ, coded_bool}
+use Rattle.std.specs.Prelude.{◌≡◌, ℕ, ◌+◌, ◌*◌, ◌/◌, ◌%◌, ◌==◌, Bool, cond, not}
 use Rattle.std.proofs.Common.{arith, ap₂}
 use Rattle.std.proofs.lemmas.Bool.Decides.{nat_tests}
 

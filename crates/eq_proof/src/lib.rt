@@ -2,8 +2,16 @@
 #![tactic(auto)]
 
 pub mod clause;
+pub mod clauses;
+pub mod formula;
 pub mod lit;
+pub mod log;
 pub mod rows;
+pub mod step;
 
 pub use clause::Clause;
+pub use clauses::Clauses;
+pub use formula::Formula;
 pub use lit::Lit;
+pub use log::{Log, StepRef};
+pub use step::Step;

@@ -1,5 +1,5 @@
 //! Lists of lists, kept flat.
-ghost use Rattle.std.specs.Prelude.{◌≡◌, ◌<◌, ◌≤◌, [], ◌∷◌, ◌++◌, length, slice_get, slice_range, OnOk, OnErr, IsTrue, ◌↔◌};
+ghost use Rattle.std.specs.Prelude.{◌≡◌, ◌<◌, ◌≤◌, [], ◌∷◌, ◌++◌, length, slice_get, slice_range, take, OnOk, OnErr, IsTrue, ◌↔◌};
 ghost use Rattle.eq_proof.specs.Rows.{parts_of, IsDivision, start_at};
 
 use eq_base::Memory;
@@ -58,6 +58,18 @@ impl<T> Rows<T> {
     {
         row(self.items.as_slice(), self.ends.as_slice(), place)
     }
+
+    /// Keeps the first `rows` rows.
+    pub fn truncate(&mut self, rows: usize)
+    where
+        T: Drop,
+        requires { rows ≤ length self.old }
+        ensures { self.new ≡ take rows self.old }
+    {
+        let end = end_of(self.ends.as_slice(), rows);
+        self.items.truncate(end);
+        self.ends.truncate(rows);
+    }
 }
 
 impl<T: Copy> Rows<T> {
@@ -84,15 +96,15 @@ fn row<'a, T>(items: &'a [T], ends: &[usize], place: usize) -> &'a [T]
     requires within { place < length ends.now }
     ensures { slice_get (parts_of items.now 0 ends.now) place ≡ Some result.now }
 {
-    between(items, start_of(ends, place), ends[place])
+    between(items, end_of(ends, place), ends[place])
 }
 
-// Where the row at a place begins.
-fn start_of(ends: &[usize], place: usize) -> usize
-    requires { place < length ends.now }
-    ensures { result ≡ start_at 0 ends.now place }
+// Where the first rows end, and so where the row after them begins.
+fn end_of(ends: &[usize], rows: usize) -> usize
+    requires { rows ≤ length ends.now }
+    ensures { result ≡ start_at 0 ends.now rows }
 {
-    if place == 0 { 0 } else { ends[place - 1] }
+    if rows == 0 { 0 } else { ends[rows - 1] }
 }
 
 // `&items[start..end]`, with its bounds as conditions.

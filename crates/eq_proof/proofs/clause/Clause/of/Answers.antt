@@ -1,7 +1,5 @@
-use Rattle.std.proofs.Common.{sym, ◌≡◌, subst, List}
+use Rattle.std.proofs.Common.{sym, subst}
 use Rattle.std.proofs.lemmas.List.Filters.{dedup_is}
-use Rattle.std.specs.List.{dedup, Contains}
-use Rattle.eq_proof.specs.Literal.{Literal}
 use Rattle.eq_proof.specs.Clause.{IsClause}
 use Rattle.eq_proof.proofs.Sorting.{same_literal, IsClause-dedup, kept}
 use Rattle.eq_proof.proofs.clause.Clause.of.Goals as goal
