@@ -1,3 +1,5 @@
 pub mod Division
 pub mod Sorting
 pub mod Lists
+pub mod Soundness
+pub mod Trails

@@ -1,11 +1,11 @@
 -- Lists: one more element, an element at a place, and lists of inferences.
-use Rattle.std.proofs.Common.{◌≡◌, ℕ, ◌≤◌, ◌<◌, ◌+◌, ◌^◌, suc, zero, List, [], ◌∷◌, ◌++◌, length, Some, Ok, Err, Result, OnOk, OnErr, slice_get, arith, refl, sym, ap, subst}
+use Rattle.std.proofs.Common.{◌≡◌, ℕ, ◌≤◌, ◌<◌, ◌+◌, ◌^◌, suc, zero, List, [], ◌∷◌, ◌++◌, length, take, Some, Ok, Err, Result, OnOk, OnErr, slice_get, arith, refl, sym, ap, ◌∙◌, subst, add-one}
 use Rattle.std.specs.Prelude.{All}
 use Rattle.std.proofs.lemmas.List.Elements.{All-push}
-use Rattle.std.proofs.lemmas.List.{length_push}
+use Rattle.std.proofs.lemmas.List.{length_push, map_more}
 use Rattle.std.proofs.lemmas.Option.{slice_get_within, get_or_from_slice_get}
 use Rattle.eq_proof.specs.Literal.{Literal}
-use Rattle.eq_proof.specs.Inference.{inferences, IsLog}
+use Rattle.eq_proof.specs.Inference.{Inference, inferences, clauses_of, IsLog}
 
 -- what holds of the elements and of the one that a push adds
 pub All-pushed : {X U E : Type 0} (P : X → Type 0) (r : Result U E) (xs ys : List X) (x : X) → OnOk r (ys ≡ xs ++ x ∷ []) → OnErr r (ys ≡ xs) → All P xs → P x → All P ys
@@ -42,3 +42,10 @@ IsLog-push clauses rows c a log few from_one = record {
   few = omega (arith, length_push clauses c);
   from_one = All-push (All (λ n. 1 ≤ n)) rows a log.from_one from_one;
 }
+
+-- the clauses of the first steps, one step on
+pub clauses_more : (log : List Inference) (place : ℕ) (step : Inference) → slice_get log place ≡ Some step → clauses_of (take (suc place) log) ≡ clauses_of (take place log) ++ step.clause ∷ []
+clauses_more log place step is =
+    let within = slice_get_within log place step is in
+    let e = map_more (λ (s : Inference). s.clause) log place step within in
+    rw (← add-one place, e, get_or_from_slice_get log place step step is) refl

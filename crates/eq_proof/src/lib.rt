@@ -6,8 +6,10 @@ pub mod clauses;
 pub mod formula;
 pub mod lit;
 pub mod log;
+mod marks;
 pub mod rows;
 pub mod step;
+mod trail;
 
 pub use clause::Clause;
 pub use clauses::Clauses;
