@@ -3,3 +3,5 @@ pub mod Sorting
 pub mod Lists
 pub mod Soundness
 pub mod Trails
+pub mod Judging
+pub mod Before

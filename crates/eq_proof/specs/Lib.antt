@@ -8,3 +8,4 @@ pub mod Derivation
 pub mod Fresh
 pub mod Assigned
 pub mod Marks
+pub mod Judgement

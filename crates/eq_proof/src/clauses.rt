@@ -1,5 +1,5 @@
 //! Lists of clauses, and formulas.
-ghost use Rattle.std.specs.Prelude.{◌≡◌, ◌<◌, [], ◌∷◌, ◌++◌, length, slice_get, OnOk, OnErr, IsTrue, ◌↔◌};
+ghost use Rattle.std.specs.Prelude.{◌≡◌, ◌<◌, ◌^◌, [], ◌∷◌, ◌++◌, length, slice_get, OnOk, OnErr, IsTrue, ◌↔◌};
 ghost use Rattle.eq_proof.specs.Clause.{IsClause};
 
 use crate::clause::Clause;
@@ -38,7 +38,8 @@ impl Clauses {
     }
 
     pub fn len(&self) -> usize
-        ensures { result ≡ length self.now }
+        ensures value { result ≡ length self.now }
+        ensures few { result < 2 ^ 63 }
     {
         self.rows.len()
     }

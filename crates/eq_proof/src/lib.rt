@@ -3,7 +3,9 @@
 
 pub mod clause;
 pub mod clauses;
+mod earlier;
 pub mod formula;
+mod judgement;
 pub mod lit;
 pub mod log;
 mod marks;

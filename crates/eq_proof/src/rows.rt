@@ -1,5 +1,5 @@
 //! Lists of lists, kept flat.
-ghost use Rattle.std.specs.Prelude.{◌≡◌, ◌<◌, ◌≤◌, [], ◌∷◌, ◌++◌, length, slice_get, slice_range, take, OnOk, OnErr, IsTrue, ◌↔◌};
+ghost use Rattle.std.specs.Prelude.{◌≡◌, ◌<◌, ◌≤◌, ◌^◌, [], ◌∷◌, ◌++◌, length, slice_get, slice_range, take, OnOk, OnErr, IsTrue, ◌↔◌};
 ghost use Rattle.eq_proof.specs.Rows.{parts_of, IsDivision, start_at};
 
 use eq_base::Memory;
@@ -40,7 +40,8 @@ impl<T> Rows<T> {
     }
 
     pub fn len(&self) -> usize
-        ensures { result ≡ length self.now }
+        ensures value { result ≡ length self.now }
+        ensures few { result < 2 ^ 63 }
     {
         self.ends.len()
     }
