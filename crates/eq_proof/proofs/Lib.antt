@@ -5,3 +5,5 @@ pub mod Soundness
 pub mod Trails
 pub mod Judging
 pub mod Before
+pub mod Negations
+pub mod Refuting

@@ -9,6 +9,7 @@ use crate::log::Log;
 use std::marker::Model;
 
 /// The clauses of a formula and of the first `steps` steps of a log, numbered from 1.
+#[derive(Drop)]
 pub struct Earlier<'a> {
     formula: &'a Formula,
     log: &'a Log,

@@ -1,8 +1,10 @@
 //! Clauses, formulas and logs of derivations, and the checker of logs.
 #![tactic(auto)]
 
+pub mod checker;
 pub mod clause;
 pub mod clauses;
+mod derivation;
 mod earlier;
 pub mod formula;
 mod judgement;
@@ -13,6 +15,7 @@ pub mod rows;
 pub mod step;
 mod trail;
 
+pub use checker::{CheckErr, Checked, check};
 pub use clause::Clause;
 pub use clauses::Clauses;
 pub use formula::Formula;
