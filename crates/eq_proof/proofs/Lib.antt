@@ -7,3 +7,4 @@ pub mod Judging
 pub mod Before
 pub mod Negations
 pub mod Refuting
+pub mod Checking
