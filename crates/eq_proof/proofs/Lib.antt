@@ -8,3 +8,6 @@ pub mod Before
 pub mod Negations
 pub mod Refuting
 pub mod Checking
+pub mod Staleness
+pub mod Forcing
+pub mod Sweeping

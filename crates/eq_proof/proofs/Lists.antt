@@ -1,6 +1,6 @@
 -- Lists: one more element, an element at a place, and lists of inferences.
 use Rattle.std.proofs.Common.{◌≡◌, ℕ, ◌≤◌, ◌<◌, ◌+◌, ◌^◌, suc, zero, List, [], ◌∷◌, ◌++◌, length, take, Some, Ok, Err, Result, OnOk, OnErr, slice_get, arith, refl, sym, ap, ◌∙◌, subst, add-one}
-use Rattle.std.specs.Prelude.{All}
+use Rattle.std.specs.Prelude.{All, Contains}
 use Rattle.std.proofs.lemmas.List.Elements.{All-push}
 use Rattle.std.proofs.lemmas.List.{length_push, map_more}
 use Rattle.std.proofs.lemmas.Option.{slice_get_within, get_or_from_slice_get}
@@ -49,3 +49,7 @@ clauses_more log place step is =
     let within = slice_get_within log place step is in
     let e = map_more (λ (s : Inference). s.clause) log place step within in
     rw (← add-one place, e, get_or_from_slice_get log place step step is) refl
+
+-- the element at a place is a member
+pub member_at : {X : Type 0} (xs : List X) (place : ℕ) (x : X) → slice_get xs place ≡ Some x → Contains xs x
+member_at xs place x is = (place, slice_get_within xs place x is, get_or_from_slice_get xs place x x is)

@@ -36,7 +36,7 @@ signs_same x y false false h = (omega arith, refl)
 signs_same x y false true h = absurd (omega arith)
 signs_same x y true false h = absurd (omega arith)
 
-same_code : (a b : Literal) → same_literal a b ≡ true → a ≡ b
+pub same_code : (a b : Literal) → same_literal a b ≡ true → a ≡ b
 same_code a b h =
     let e = signs_same a.var b.var a.positive b.positive ((Decides-eqb (code_of a) (code_of b)).0 h) in
     literal_is a b e.0 e.1

@@ -8,7 +8,7 @@ use Rattle.std.proofs.lemmas.List.Elements.{All-push, All-contains, Contains-get
 use Rattle.std.proofs.lemmas.List.Quantifiers.{all_pairs_push}
 use Rattle.std.proofs.lemmas.List.Sums.{sum_by-set, count_by-le-length}
 use Rattle.eq_proof.specs.Literal.{Literal, negation, literal_is}
-use Rattle.eq_proof.specs.Sets.{IsFalse, HasNoValue}
+use Rattle.eq_proof.specs.Sets.{IsFalse, HasNoValue, IsConsistent}
 use Rattle.eq_proof.specs.Marks.{IsTrail, HasValue, mark_of, value_of, is_assigned}
 use Rattle.eq_proof.specs.declared.trail.Mark.{Mark}
 use Rattle.eq_proof.specs.declared.trail.Mark.TheVariants.{Open, Positive, Negative}
@@ -136,3 +136,10 @@ trail_popped marks trail l t =
 -- no more literals than variables
 pub trail_room : (marks : List Mark) (trail : List Literal) → IsTrail marks trail → length trail ≤ length marks
 trail_room marks trail t = omega (arith, t.counted, count_by-le-length is_assigned marks)
+
+-- no literal beside its negation
+pub trail_consistent : (marks : List Mark) (trail : List Literal) → IsTrail marks trail → IsConsistent trail
+trail_consistent marks trail t l member other = signs_apart l.positive (sym (t.marked l member) ∙ t.marked (negation l) other) where
+  signs_apart : (p : Bool) → mark_of p ≡ mark_of (not p) → ⊥
+  signs_apart true e = absurd (cc)
+  signs_apart false e = absurd (cc)

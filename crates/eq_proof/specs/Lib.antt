@@ -9,3 +9,5 @@ pub mod Fresh
 pub mod Assigned
 pub mod Marks
 pub mod Judgement
+pub mod Laws
+pub mod Propagation

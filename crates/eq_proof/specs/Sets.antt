@@ -23,3 +23,7 @@ pub record IsUnit (set clause : List Literal) (l : Literal) : Type 0 where
   pub member : Contains clause l
   pub no_value : HasNoValue set l
   pub others : All (λ m. (m ≡ l) ⊎ IsFalse set m) clause
+
+-- what is in the one is in the other
+abbrev pub IsSubset : List Literal → List Literal → Type 0
+IsSubset few many = (l : Literal) → Contains few l → Contains many l

@@ -85,7 +85,7 @@ fn counted(checked: Checked, empty: bool) -> Checked
 }
 
 // The highest variable of a log's clauses, or 0 where there is none.
-fn highest(log: &Log) -> u32
+pub fn highest(log: &Log) -> u32
     ensures { All (All (λ l. l.var ≤ result)) (clauses_of log.now) }
 {
     let mut most = 0;

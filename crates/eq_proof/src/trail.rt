@@ -1,7 +1,7 @@
 //! A set of literals that are true, which grows one by one and is taken back by its trail.
 ghost use Rattle.std.specs.Prelude.{◌≡◌, ◌<◌, ◌≤◌, [], ◌∷◌, ◌++◌, length, Contains, IfOk, OnOk, OnErr, MatchOption};
 ghost use Rattle.eq_proof.specs.Literal.{negation};
-ghost use Rattle.eq_proof.specs.Sets.{HasNoValue};
+ghost use Rattle.eq_proof.specs.Sets.{HasNoValue, IsConsistent};
 
 use crate::lit::Lit;
 use crate::marks::{mark_by, value_by};
@@ -64,7 +64,8 @@ impl Trail {
 
     pub fn value(&self, l: Lit) -> Value
         requires { l.var < self.now.size }
-        ensures { HasValue self.now.lits l result }
+        ensures value { HasValue self.now.lits l result }
+        ensures consistent { IsConsistent self.now.lits }
     {
         value_by(self.marks[l.var() as usize], l.positive())
     }

@@ -8,7 +8,7 @@ use Rattle.eq_proof.proofs.judgement.judge.Goals as goal
 use Rattle.eq_proof.proofs.judgement.judge.Goals.{in-False, in-Unassigned+in-None}
 
 pub returns-in-True : goal.returns-in-True
-returns-in-True c = idle_true _ _ c.l-item.result (read_member _ c.loop-l.l-index c.l-item.result (omega arith) c.l-item.is) c.in-True.ensures
+returns-in-True c = idle_true _ _ c.l-item.result (read_member _ c.loop-l.l-index c.l-item.result (omega arith) c.l-item.is) c.in-True.ensures.value
 
 pub returns-in-Some : goal.returns-in-Some
 returns-in-Some c =
@@ -18,7 +18,7 @@ returns-in-Some c =
     idle_two c.args.trail.now.lits c.args.clause.now c.in-Some.field-0 c.l-item.result
       (in_whole c.args.clause.now c.loop-l.l-index c.in-Some.field-0 (omega arith) unit.member)
       (read_member _ c.loop-l.l-index c.l-item.result (omega arith) c.l-item.is)
-      unit.no_value c.in-Unassigned.ensures
+      unit.no_value c.in-Unassigned.ensures.value
       (differs c.args.clause.now c.loop-l.l-index c.in-Some.field-0 c.l-item.result c.requires.ordered unit.member (omega arith) c.l-item.is)
 
 pub loop-l-preserved : goal.loop-l-preserved
@@ -28,8 +28,8 @@ loop-l-preserved c =
     let more = taken_more c.args.clause.now c.loop-l.l-index c.l-item.result (omega arith) c.l-item.is in
     let P : Option Literal → Type 0 = IsSeen set seen in
     elim c.match-value.branch [
-      in-False w ↦ rw (more, w.unassigned-is) (seen_false set seen c.loop-l.unassigned c.l-item.result c.loop-l.invariant w.in-False.ensures.0)
-    | in-Unassigned+in-None w ↦ rw (more, w.unassigned-is) (seen_first set seen c.l-item.result (subst P w.in-None.is c.loop-l.invariant) w.in-Unassigned.ensures)
+      in-False w ↦ rw (more, w.unassigned-is) (seen_false set seen c.loop-l.unassigned c.l-item.result c.loop-l.invariant w.in-False.ensures.value.0)
+    | in-Unassigned+in-None w ↦ rw (more, w.unassigned-is) (seen_first set seen c.l-item.result (subst P w.in-None.is c.loop-l.invariant) w.in-Unassigned.ensures.value)
     ]
 
 pub returns-in-None-unassigned : goal.returns-in-None-unassigned
