@@ -12,8 +12,7 @@ use Rattle.eq_proof.specs.Clause.{IsBefore, IsClause}
 use Rattle.eq_proof.specs.Assigned.{AllBelow}
 use Rattle.eq_proof.specs.Inference.{Inference, clauses_of}
 use Rattle.eq_proof.specs.Derivation.{clauses_before, nonempty_of, EndsEmpty}
-use Rattle.eq_proof.proofs.Lists.{All-at, clauses_more}
-use Rattle.eq_proof.proofs.Judging.{taken_more}
+use Rattle.eq_proof.proofs.Lists.{All-at, clauses_more, taken_at}
 use Rattle.eq_proof.proofs.Before.{get_right}
 
 before_var : (a b : Literal) → IsBefore a b → a.var ≤ b.var
@@ -62,8 +61,7 @@ before_below clauses log steps vars most size is first then =
 -- the count of nonempty steps, one step on
 pub nonempty_more : (log : List Inference) (place : ℕ) (step : Inference) → slice_get log place ≡ Some step → nonempty_of (take (place + 1) log) ≡ nonempty_of (take place log) + cond (nat_eq (length step.clause) 0) 0 1
 nonempty_more log place step is =
-    let within = slice_get_within log place step is in
-    let more = taken_more log place step within (sym (get_or_from_slice_get log place step step is)) in
+    let more = taken_at log place step is in
     let sums = sum_by-append (λ (s : Inference). cond {A = ℕ} (nat_lt 0 (length s.clause)) 1 0) (take place log) (step ∷ []) in
     let test : cond {A = ℕ} (nat_lt 0 (length step.clause)) 1 0 ≡ cond (nat_eq (length step.clause) 0) 0 1 = grind (arith, nat_tests) in
     ap nonempty_of more ∙ sums ∙ omega (arith, test)
@@ -71,8 +69,7 @@ nonempty_more log place step is =
 -- whether the first steps end with the empty clause, one step on
 pub ends_more : (log : List Inference) (place : ℕ) (step : Inference) → slice_get log place ≡ Some step → IsTrue (nat_eq (length step.clause) 0) ↔ EndsEmpty (take (place + 1) log)
 ends_more log place step is =
-    let within = slice_get_within log place step is in
-    let more = taken_more log place step within (sym (get_or_from_slice_get log place step step is)) in
+    let more = taken_at log place step is in
     let last : slice_get (clauses_of (take place log ++ step ∷ [])) (length (take place log ++ step ∷ []) - 1) ≡ Some step.clause =
       rw (map_push (λ (s : Inference). s.clause) (take place log) step)
         (get_right (clauses_of (take place log)) (step.clause ∷ []) (length (take place log ++ step ∷ []) - 1) 0 step.clause

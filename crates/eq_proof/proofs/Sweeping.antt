@@ -13,8 +13,7 @@ use Rattle.eq_proof.specs.declared.propagation.Finding.{Finding}
 use Rattle.eq_proof.specs.declared.propagation.Finding.TheVariants.{Changed, Settled}
 use Rattle.eq_proof.specs.Propagation.{IsForced, IsDone, Sweeps}
 use Rattle.std.specs.Prelude.{MatchBool}
-use Rattle.eq_proof.proofs.Lists.{member_at}
-use Rattle.eq_proof.proofs.Judging.{taken_more}
+use Rattle.eq_proof.proofs.Lists.{member_at, taken_at}
 use Rattle.eq_proof.proofs.Forcing.{forced_more, subset_more}
 
 -- what holds after the clauses up to a place
@@ -57,7 +56,7 @@ swept_unit clauses old mid new place changed clause l swept at unit lits room si
 pub swept_idle : (clauses : List (List Literal)) (old mid : Assigned) (place : ℕ) (changed : Bool) (clause : List Literal) → IsSwept clauses old place mid changed → slice_get clauses place ≡ Some clause → IsJudged mid.lits clause Idle
     → IsSwept clauses old (place + 1) mid changed
 swept_idle clauses old mid place changed clause swept at idle =
-    let more = taken_more clauses place clause (slice_get_within clauses place clause at) (sym (get_or_from_slice_get clauses place clause clause at)) in
+    let more = taken_at clauses place clause at in
     let P : List (List Literal) → Type 0 = λ some. IsDone some mid.lits in
     record {
       size = swept.size;

@@ -1,16 +1,14 @@
 //! The checker of logs.
 ghost use Rattle.std.specs.Prelude.{◌≡◌, ◌↔◌, ◌≤◌, ◌<◌, ◌+◌, ◌^◌, ℕ, if◌then◌else◌, IsTrue, All, IfOk, IsErrOf};
-ghost use Rattle.eq_proof.specs.Inference.{clauses_of};
-ghost use Rattle.eq_proof.specs.Clause.{IsClause};
 ghost use Rattle.eq_proof.specs.Derivation.{AllDerive, IsFirstBad, EndsEmpty, nonempty_of};
 ghost use Rattle.eq_proof.specs.Satisfying.{Unsatisfiable};
 
 use crate::derivation::derives;
 use crate::earlier::Earlier;
 use crate::formula::Formula;
-use crate::lit::Lit;
 use crate::log::Log;
 use crate::trail::Trail;
+use crate::variables::highest;
 use eq_base::Memory;
 use std::alloc::Global;
 
@@ -81,27 +79,5 @@ fn counted(checked: Checked, empty: bool) -> Checked
             checked.nonempty + 1
         },
         ends: empty,
-    }
-}
-
-// The highest variable of a log's clauses, or 0 where there is none.
-pub fn highest(log: &Log) -> u32
-    ensures { All (All (λ l. l.var ≤ result)) (clauses_of log.now) }
-{
-    let mut most = 0;
-    for index in 0..log.len() {
-        most = highest_of(log.at(index).clause).max(most);
-    }
-    most
-}
-
-// The highest variable of a clause, or 0 where it is empty.
-fn highest_of(clause: &[Lit]) -> u32
-    requires { IsClause clause.now }
-    ensures { All (λ l. l.var ≤ result) clause.now }
-{
-    match clause.last() {
-        Some(last) => last.var(),
-        None => 0,
     }
 }

@@ -1,5 +1,5 @@
 //! Lists of clauses, and formulas.
-ghost use Rattle.std.specs.Prelude.{◌≡◌, ◌<◌, ◌^◌, [], ◌∷◌, ◌++◌, length, slice_get, OnOk, OnErr, IsTrue, ◌↔◌};
+ghost use Rattle.std.specs.Prelude.{◌≡◌, ◌<◌, ◌≤◌, ◌^◌, All, [], ◌∷◌, ◌++◌, length, slice_get, OnOk, OnErr, IsTrue, ◌↔◌};
 ghost use Rattle.eq_proof.specs.Clause.{IsClause};
 
 use crate::clause::Clause;
@@ -59,6 +59,18 @@ impl Clauses {
         self.rows.at(place)
     }
 
+    /// Whether no literal's variable is above `vars`, as a `Formula` asks.
+    pub fn are_within(&self, vars: u32) -> bool
+        ensures { IsTrue result ↔ All (All (λ l. l.var ≤ vars)) self.now }
+    {
+        for place in 0..self.len() {
+            if !is_within(self.at(place), vars) {
+                return false;
+            }
+        }
+        true
+    }
+
     pub fn push(&mut self, clause: Clause) -> Result<(), Memory>
         ensures ok { OnOk result (self.new ≡ self.old ++ clause ∷ []) }
         ensures err { OnErr result (self.new ≡ self.old) }
@@ -74,4 +86,11 @@ impl Clauses {
     {
         self.rows.push(lits)
     }
+}
+
+// Whether no variable of a clause is above `vars`.
+fn is_within(clause: &[Lit], vars: u32) -> bool
+    ensures { IsTrue result ↔ All (λ l. l.var ≤ vars) clause.now }
+{
+    clause.iter().all(|l| l.var() <= vars)
 }

@@ -8,13 +8,13 @@ ghost use Rattle.eq_proof.specs.Sets.{IsConsistent, IsSubset};
 ghost use Rattle.eq_proof.specs.Propagation.{OthersFalse};
 ghost use Rattle.eq_proof.specs.Fresh.{IsFresh, IsOpenFor, IsFirstStale, AllFresh};
 
-use crate::checker::highest;
 use crate::earlier::Earlier;
 use crate::formula::Formula;
 use crate::lit::Lit;
 use crate::log::Log;
 use crate::propagation::propagate;
 use crate::trail::{Trail, Value};
+use crate::variables::highest;
 use eq_base::Memory;
 use std::alloc::Global;
 

@@ -17,6 +17,7 @@ mod propagation;
 pub mod rows;
 pub mod step;
 mod trail;
+mod variables;
 
 pub use checker::{CheckErr, Checked, check};
 pub use clause::Clause;
@@ -26,3 +27,6 @@ pub use freshness::first_stale;
 pub use lit::Lit;
 pub use log::{Log, StepRef};
 pub use step::Step;
+
+#[cfg(test)]
+mod tests;

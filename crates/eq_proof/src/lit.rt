@@ -13,6 +13,8 @@ pub struct Lit {
     code: u32,
 }
 
+const _: () = prove!(size_of::<Lit>() == 4);
+
 impl Model for Lit {
     ghost use Rattle.eq_proof.specs.Literal.{Literal};
 

@@ -23,3 +23,14 @@ impl Model for Step {
 
     ghost invariant = { λ s. All (λ n. 1 ≤ n) s.ants };
 }
+
+impl Step {
+    ghost use Rattle.std.specs.Prelude.{◌≤◌, ◌↔◌, All, IsTrue};
+
+    /// Whether all numbers are from 1, as a step asks of its antecedents.
+    pub fn are_from_one(ants: &[u64]) -> bool
+        ensures { IsTrue result ↔ All (λ n. 1 ≤ n) ants.now }
+    {
+        ants.iter().all(|n| 1 <= *n)
+    }
+}

@@ -17,6 +17,8 @@ pub enum Mark {
     Negative,
 }
 
+const _: () = prove!(size_of::<Mark>() == 1);
+
 /// The value of a literal.
 #[derive(Clone, Copy, Debug)]
 pub enum Value {
