@@ -1,18 +1,18 @@
 -- A log one step after the other: its highest variable, its clauses, its count.
-use Rattle.std.proofs.Common.{◌≡◌, ℕ, ◌+◌, ◌-◌, ◌<◌, ◌≤◌, ◌↔◌, ◌⊎◌, inl, inr, max, cond, suc, Some, Bool, true, false, List, [], ◌∷◌, ◌++◌, length, take, map, get_or, slice_get, nat_eq, IsTrue, arith, refl, sym, ap, ◌∙◌, subst, add-one, length-append}
-use Rattle.std.specs.Prelude.{All, nat_lt, sum_by, ◌==◌}
+use Rattle.std.proofs.Common.{◌≡◌, ℕ, ◌+◌, ◌-◌, ◌<◌, ◌≤◌, ◌↔◌, inl, inr, max, cond, Some, List, [], ◌∷◌, ◌++◌, length, take, get_or, slice_get, nat_eq, IsTrue, arith, refl, sym, ap, ◌∙◌, subst, add-one}
+use Rattle.std.specs.Prelude.{All, nat_lt}
 use Rattle.std.proofs.lemmas.Bool.{cases_lt}
 use Rattle.std.proofs.lemmas.Bool.Decides.{Decides-eqb, nat_tests}
-use Rattle.std.proofs.lemmas.List.{take-map, length-map, length_push, map_push, take_all, nil_from_length}
-use Rattle.std.proofs.lemmas.List.Elements.{All-push, All-append, All-take, All-weaker, All-same}
+use Rattle.std.proofs.lemmas.List.{take-map, length-map, length_push, map_push, nil_from_length}
+use Rattle.std.proofs.lemmas.List.Elements.{All-push, All-append, All-take, All-weaker}
 use Rattle.std.proofs.lemmas.List.Sums.{sum_by-append}
-use Rattle.std.proofs.lemmas.Option.{slice_get_within, get_or_from_slice_get, slice_get-map}
+use Rattle.std.proofs.lemmas.Option.{get_or_from_slice_get, slice_get-map}
 use Rattle.eq_proof.specs.Literal.{Literal}
 use Rattle.eq_proof.specs.Clause.{IsBefore, IsClause}
 use Rattle.eq_proof.specs.Assigned.{AllBelow}
 use Rattle.eq_proof.specs.Inference.{Inference, clauses_of}
 use Rattle.eq_proof.specs.Derivation.{clauses_before, nonempty_of, EndsEmpty}
-use Rattle.eq_proof.proofs.Lists.{All-at, clauses_more, taken_at}
+use Rattle.eq_proof.proofs.Lists.{clauses_more, taken_at}
 use Rattle.eq_proof.proofs.Before.{get_right}
 
 before_var : (a b : Literal) → IsBefore a b → a.var ≤ b.var
@@ -24,13 +24,13 @@ pub last_is_most : (clause : List Literal) (last : Literal) → IsClause clause 
 last_is_most clause last ordered is k d h =
     let end = get_or_from_slice_get clause (length clause - 1) last d is in
     elim (cases_lt k (length clause - 1)) [
-      inl below ↦
-        let P : Literal → Type 0 = λ b. IsBefore (get_or clause k d) b in
-        before_var (get_or clause k d) last (subst P end (ordered k (length clause - 1) d below (omega arith)))
-    | inr at_end ↦
-        let same : k ≡ length clause - 1 = omega arith in
-        let e : get_or clause k d ≡ last = ap (λ i. get_or clause i d) same ∙ end in
-        omega (arith, ap (λ (l : Literal). l.var) e)
+      | inl below ↦
+          let P : Literal → Type 0 = λ b. IsBefore (get_or clause k d) b in
+          before_var (get_or clause k d) last (subst P end (ordered k (length clause - 1) d below (omega arith)))
+      | inr at_end ↦
+          let same : k ≡ length clause - 1 = omega arith in
+          let e : get_or clause k d ≡ last = ap (λ i. get_or clause i d) same ∙ end in
+          omega (arith, ap (λ (l : Literal). l.var) e)
     ]
 
 -- the bound of the first steps' clauses, one step on
@@ -71,9 +71,10 @@ pub ends_more : (log : List Inference) (place : ℕ) (step : Inference) → slic
 ends_more log place step is =
     let more = taken_at log place step is in
     let last : slice_get (clauses_of (take place log ++ step ∷ [])) (length (take place log ++ step ∷ []) - 1) ≡ Some step.clause =
-      rw (map_push (λ (s : Inference). s.clause) (take place log) step)
-        (get_right (clauses_of (take place log)) (step.clause ∷ []) (length (take place log ++ step ∷ []) - 1) 0 step.clause
-          (omega (arith, length_push (take place log) step, length-map (take place log) (λ (s : Inference). s.clause))) refl) in
-    rw more
-      (λ t. last ∙ ap Some (nil_from_length step.clause ((Decides-eqb (length step.clause) 0).0 t)),
-       λ e. (Decides-eqb (length step.clause) 0).1 (let same : Some step.clause ≡ Some [] = sym last ∙ e in let nil : step.clause ≡ [] = cc in ap length nil))
+    rw (map_push (λ (s : Inference). s.clause) (take place log) step)
+    (get_right (clauses_of (take place log)) (step.clause ∷ []) (length (take place log ++ step ∷ []) - 1) 0 step.clause
+    (omega (arith, length_push (take place log) step, length-map (take place log) (λ (s : Inference). s.clause))) refl) in
+    rw more (
+      λ t. last ∙ ap Some (nil_from_length step.clause ((Decides-eqb (length step.clause) 0).0 t)),
+      λ e. (Decides-eqb (length step.clause) 0).1 (let same : Some step.clause ≡ Some [] = sym last ∙ e in let nil : step.clause ≡ [] = cc in ap length nil),
+    )

@@ -1,12 +1,12 @@
 -- What settled sets must have: literals of unit clauses, and so all that propagation makes true.
-use Rattle.std.proofs.Common.{◌≡◌, ◌≢◌, ℕ, ◌+◌, ◌<◌, ◌≤◌, ◌⊎◌, inl, inr, suc, zero, Bool, true, false, List, [], ◌∷◌, ◌++◌, length, take, get_or, arith, refl, sym, ap, ◌∙◌, subst}
+use Rattle.std.proofs.Common.{◌≡◌, ◌≢◌, ℕ, ◌<◌, ◌⊎◌, inl, inr, suc, zero, true, false, List, [], ◌∷◌, ◌++◌, length, get_or, arith, sym, ap, ◌∙◌, subst}
 use Rattle.std.specs.Prelude.{All, Contains}
 use Rattle.std.proofs.lemmas.Bool.{cases_Bool}
 use Rattle.std.proofs.lemmas.Cmp.{nat_eq_equiv}
-use Rattle.std.proofs.lemmas.List.Elements.{All-push, All-weaker, All-contains, Contains-push_cases, Contains-push, Contains-append_left, Contains-get_or}
+use Rattle.std.proofs.lemmas.List.Elements.{All-push, All-weaker, All-contains, Contains-push_cases, Contains-push, Contains-append_left}
 use Rattle.eq_proof.specs.Literal.{Literal, negation, code_of}
-use Rattle.eq_proof.specs.Sets.{IsConsistent, IsFalse, HasNoValue, IsFalsified, IsUnit, IsSubset}
-use Rattle.eq_proof.specs.Fresh.{IsSettled, IsOpenFor}
+use Rattle.eq_proof.specs.Sets.{IsConsistent, IsFalse, IsFalsified, IsUnit, IsSubset}
+use Rattle.eq_proof.specs.Fresh.{IsSettled}
 use Rattle.eq_proof.specs.Judgement.{IsJudged}
 use Rattle.eq_proof.specs.declared.judgement.Judgement.TheVariants.{Idle}
 use Rattle.eq_proof.specs.Propagation.{IsForced, IsRefused, IsDone, OthersFalse}
@@ -17,13 +17,13 @@ pub member_or_not : (set : List Literal) (l : Literal) → Contains set l ⊎ (�
 member_or_not [] l = inr (λ h. absurd (let none : h.0 < 0 = h.1 in omega arith))
 member_or_not (m ∷ set) l =
     elim (cases_Bool (same_literal m l)) [
-      inl e ↦ inl (0, omega arith, same_code m l e)
-    | inr e ↦ elim (member_or_not set l) [
-        inl h ↦ inl (suc h.0, omega (arith, h.1), h.2)
-      | inr none ↦ inr (λ h. neither h.0 h.1 h.2 (λ is. let clash : true ≡ false = sym (nat_eq_equiv.refl (code_of l)) ∙ ap (λ (x : Literal). same_literal x l) (sym is) ∙ e in cc) none)
+      | inl e ↦ inl (0, omega arith, same_code m l e)
+      | inr e ↦ elim (member_or_not set l) [
+        | inl h ↦ inl (suc h.0, omega (arith, h.1), h.2)
+        | inr none ↦ inr (λ h. neither h.0 h.1 h.2 (λ is. let clash : true ≡ false = sym (nat_eq_equiv.refl (code_of l)) ∙ ap (λ (x : Literal). same_literal x l) (sym is) ∙ e in cc) none)
       ]
     ]
-    where
+  where
     neither : (k : ℕ) → k < suc (length set) → get_or (m ∷ set) k l ≡ l → (m ≡ l → ⊥) → (¬ Contains set l) → ⊥
     neither zero h e first rest = first e
     neither (suc k) h e first rest = rest (k, omega arith, e)
@@ -39,14 +39,14 @@ unit_forced clauses few set clause l settled sub there unit =
     let Q : Literal → Type 0 = λ m. (m ≡ l) ⊎ IsFalse set m in
     let others : All Q clause = All-weaker P Q (λ m h. elim h [ inl is ↦ inl is | inr f ↦ inr (sub (negation m) f) ]) clause unit.others in
     elim (member_or_not set l) [
-      inl h ↦ h
-    | inr out ↦ elim (member_or_not set (negation l)) [
-        inl f ↦
-          let falsified : IsFalsified set clause = All-weaker Q (IsFalse set) (λ m h. elim h [ inl is ↦ subst (IsFalse set) (sym is) f | inr g ↦ g ]) clause others in
-          absurd (All-contains (λ c. ¬ IsFalsified set c) clauses clause settled.no_conflict there falsified)
-      | inr out_too ↦
-          let also : IsUnit set clause l = record { member = unit.member; no_value = (out, out_too); others = others } in
-          absurd (All-contains (λ c. (l : Literal) → ¬ IsUnit set c l) clauses clause settled.no_unit there l also)
+      | inl h ↦ h
+      | inr out ↦ elim (member_or_not set (negation l)) [
+        | inl f ↦
+            let falsified : IsFalsified set clause = All-weaker Q (IsFalse set) (λ m h. elim h [ inl is ↦ subst (IsFalse set) (sym is) f | inr g ↦ g ]) clause others in
+            absurd (All-contains (λ c. ¬ IsFalsified set c) clauses clause settled.no_conflict there falsified)
+        | inr out_too ↦
+            let also : IsUnit set clause l = record { member = unit.member; no_value = (out, out_too); others = others } in
+            absurd (All-contains (λ c. (l : Literal) → ¬ IsUnit set c l) clauses clause settled.no_unit there l also)
       ]
     ]
 
@@ -54,8 +54,8 @@ unit_forced clauses few set clause l settled sub there unit =
 pub forced_more : (clauses : List (List Literal)) (old few clause : List Literal) (l : Literal) → Contains clauses clause → IsUnit few clause l → IsForced clauses old few → IsForced clauses old (few ++ l ∷ [])
 forced_more clauses old few clause l there unit forced set settled sub m h =
     elim (Contains-push_cases few l m h) [
-      inl before ↦ forced set settled sub m before
-    | inr is ↦ subst (Contains set) is (unit_forced clauses few set clause l settled (forced set settled sub) there unit)
+      | inl before ↦ forced set settled sub m before
+      | inr is ↦ subst (Contains set) is (unit_forced clauses few set clause l settled (forced set settled sub) there unit)
     ]
 
 -- a falsified clause refuses
@@ -85,8 +85,8 @@ other_false set clause l m others member differ = elim (All-contains (λ m. (m �
 pub least_assigned : (trail clause : List Literal) (l m : Literal) → Contains clause m → m ≢ l → ((set : List Literal) → OthersFalse set clause l → IsSubset trail set) → (set : List Literal) → OthersFalse set clause l → IsSubset (trail ++ negation m ∷ []) set
 least_assigned trail clause l m member differ least set others x h =
     elim (Contains-push_cases trail (negation m) x h) [
-      inl old ↦ least set others x old
-    | inr is ↦ subst (Contains set) is (other_false set clause l m others member differ)
+      | inl old ↦ least set others x old
+      | inr is ↦ subst (Contains set) is (other_false set clause l m others member differ)
     ]
 
 -- no set makes a true literal false

@@ -1,9 +1,9 @@
 -- What a clause says under a set of true literals, one literal after the other.
 use Rattle.std.proofs.Common.{◌≡◌, ◌≢◌, ℕ, ◌+◌, ◌<◌, ◌≤◌, ◌⊎◌, inl, inr, true, false, Option, None, Some, List, [], ◌∷◌, ◌++◌, length, take, get_or, arith, refl, sym, ap, ◌∙◌, subst}
-use Rattle.std.specs.Prelude.{All, Contains}
+use Rattle.std.specs.Prelude.{Contains}
 use Rattle.std.proofs.lemmas.List.{take_more, get_or-take, length-take-le, get_or_default}
-use Rattle.std.proofs.lemmas.List.Elements.{All-push, All-weaker, All-contains, Contains-append_left, Contains-push, Contains-get_or}
-use Rattle.eq_proof.specs.Literal.{Literal, negation}
+use Rattle.std.proofs.lemmas.List.Elements.{All-push, All-weaker, All-contains, Contains-append_left, Contains-push}
+use Rattle.eq_proof.specs.Literal.{Literal}
 use Rattle.eq_proof.specs.Clause.{IsBefore, IsClause}
 use Rattle.eq_proof.specs.Sets.{IsFalse, HasNoValue, IsFalsified, IsUnit}
 use Rattle.eq_proof.specs.Judgement.{IsJudged, IsSeen}
@@ -40,15 +40,17 @@ the_one set clause l x unit member not_false =
 
 -- a true literal
 pub idle_true : (set clause : List Literal) (x : Literal) → Contains clause x → Contains set x × (¬ IsFalse set x) → IsJudged set clause Idle
-idle_true set clause x member h =
-    (λ f. h.1 (All-contains (IsFalse set) clause x f member),
-     λ l unit. unit.no_value.0 (subst (Contains set) (the_one set clause l x unit member h.1) h.0))
+idle_true set clause x member h = (
+  λ f. h.1 (All-contains (IsFalse set) clause x f member),
+  λ l unit. unit.no_value.0 (subst (Contains set) (the_one set clause l x unit member h.1) h.0),
+)
 
 -- two literals without value
 pub idle_two : (set clause : List Literal) (l x : Literal) → Contains clause l → Contains clause x → HasNoValue set l → HasNoValue set x → l ≢ x → IsJudged set clause Idle
-idle_two set clause l x member_l member_x none_l none_x differ =
-    (λ f. none_x.1 (All-contains (IsFalse set) clause x f member_x),
-     λ m unit. differ (the_one set clause m l unit member_l none_l.1 ∙ sym (the_one set clause m x unit member_x none_x.1)))
+idle_two set clause l x member_l member_x none_l none_x differ = (
+  λ f. none_x.1 (All-contains (IsFalse set) clause x f member_x),
+  λ m unit. differ (the_one set clause m l unit member_l none_l.1 ∙ sym (the_one set clause m x unit member_x none_x.1)),
+)
 
 not_before_itself : (a b : Literal) → IsBefore a b → a ≢ b
 not_before_itself a b (inl less) e = absurd (let same = ap (λ (l : Literal). l.var) e in omega arith)

@@ -1,5 +1,5 @@
 -- Negations of literals.
-use Rattle.std.proofs.Common.{◌≡◌, ◌≢◌, ℕ, ◌<◌, ◌⊎◌, inl, inr, Bool, true, false, not, List, [], ◌∷◌, ◌++◌, length, map, get_or, arith, refl, sym, ap, ◌∙◌, subst}
+use Rattle.std.proofs.Common.{◌≡◌, ◌≢◌, ◌<◌, inl, inr, Bool, true, false, not, List, [], ◌∷◌, ◌++◌, length, map, get_or, arith, refl, sym, ap, ◌∙◌, subst}
 use Rattle.std.specs.Prelude.{Contains}
 use Rattle.std.proofs.lemmas.List.{get_or-map, length-map, get_or_default}
 use Rattle.std.proofs.lemmas.List.Elements.{Contains-push_cases}
@@ -34,12 +34,12 @@ to_negations lits l h = (h.0, omega (arith, length-map lits negation, h.1), get_
 pub consistent_more : (lits : List Literal) (l : Literal) → IsConsistent lits → ¬ Contains lits (negation l) → IsConsistent (lits ++ l ∷ [])
 consistent_more lits l old none m h k =
     elim (Contains-push_cases lits l m h) [
-      inl there ↦ elim (Contains-push_cases lits l (negation m) k) [
-        inl also ↦ old m there also
-      | inr is ↦ none (subst (Contains lits) (sym (ap negation is ∙ negation_twice m)) there)
+      | inl there ↦ elim (Contains-push_cases lits l (negation m) k) [
+        | inl also ↦ old m there also
+        | inr is ↦ none (subst (Contains lits) (sym (ap negation is ∙ negation_twice m)) there)
       ]
-    | inr is ↦ elim (Contains-push_cases lits l (negation m) k) [
-        inl also ↦ none (subst (λ x. Contains lits (negation x)) (sym is) also)
-      | inr same ↦ negation_differs m (sym same ∙ is)
+      | inr is ↦ elim (Contains-push_cases lits l (negation m) k) [
+        | inl also ↦ none (subst (λ x. Contains lits (negation x)) (sym is) also)
+        | inr same ↦ negation_differs m (sym same ∙ is)
       ]
     ]

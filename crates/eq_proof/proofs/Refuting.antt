@@ -1,10 +1,9 @@
 -- Refutations by antecedents, one antecedent after the other.
-use Rattle.std.proofs.Common.{◌≡◌, ℕ, ◌+◌, ◌-◌, ◌<◌, ◌≤◌, ◌↔◌, ◌⊎◌, inl, inr, Some, List, [], ◌∷◌, ◌++◌, length, drop, slice_get, nat_eq, IsTrue, true, false, arith, refl, sym, ap, ◌∙◌, subst}
-use Rattle.std.specs.Prelude.{All, Contains}
+use Rattle.std.proofs.Common.{◌≡◌, ℕ, ◌+◌, ◌<◌, ◌↔◌, Some, List, [], ◌∷◌, ◌++◌, length, drop, nat_eq, IsTrue, true, false, arith, refl, sym, ap, ◌∙◌, subst}
 use Rattle.std.proofs.lemmas.Bool.Decides.{Decides-eqb}
 use Rattle.std.proofs.lemmas.List.{drop_all, length-drop}
 use Rattle.std.proofs.lemmas.List.Elements.{All-contains}
-use Rattle.eq_proof.specs.Literal.{Literal, negation}
+use Rattle.eq_proof.specs.Literal.{Literal}
 use Rattle.eq_proof.specs.Sets.{IsFalse, IsFalsified, IsUnit}
 use Rattle.eq_proof.specs.Judgement.{IsJudged}
 use Rattle.eq_proof.specs.declared.judgement.Judgement.TheVariants.{Idle}
@@ -35,13 +34,14 @@ pub refutes_unit : (clauses : List (List Literal)) (set : List Literal) (n : ℕ
     → Refutes clauses set (n ∷ ns) ↔ Refutes clauses (set ++ l ∷ []) ns
 refutes_unit clauses set n [] clause l h unit =
     (λ r. not_both set clause l unit (subst (IsFalsified set) (one_number clauses n clause r.0 h r.1) r.2), λ r. absurd r)
-refutes_unit clauses set n (m ∷ ns) clause l h unit =
-    (λ r.
+refutes_unit clauses set n (m ∷ ns) clause l h unit = (
+  λ r.
       let same : r.0 ≡ clause = one_number clauses n clause r.0 h r.2 in
       let other : IsUnit set clause r.1 = subst (λ (c : List Literal). IsUnit set c r.1) same r.3 in
       let P : Literal → Type 0 = λ l. Refutes clauses (set ++ l ∷ []) (m ∷ ns) in
       subst P (the_one set clause l r.1 unit other.member other.no_value.1) r.4,
-     λ r. (clause, l, h, unit, r))
+  λ r. (clause, l, h, unit, r),
+)
 
 -- a clause that is neither ends it
 pub refutes_idle : (clauses : List (List Literal)) (set : List Literal) (n : ℕ) (ns : List ℕ) (clause : List Literal) → HasNumber clauses n clause → IsJudged set clause Idle → ¬ Refutes clauses set (n ∷ ns)
@@ -50,9 +50,10 @@ refutes_idle clauses set n (m ∷ ns) clause h idle r = idle.1 r.1 (subst (λ (c
 
 -- nothing is left after the last place
 pub last_place : (ns : List ℕ) (place : ℕ) → place < length ns → (place + 1 ≡ length ns) ↔ (drop (place + 1) ns ≡ [])
-last_place ns place h =
-    (λ e. drop_all (place + 1) ns (omega arith),
-     λ e. let none : length (drop (place + 1) ns) ≡ 0 = ap length e in omega (arith, length-drop (place + 1) ns))
+last_place ns place h = (
+  λ e. drop_all (place + 1) ns (omega arith),
+  λ e. let none : length (drop (place + 1) ns) ≡ 0 = ap length e in omega (arith, length-drop (place + 1) ns),
+)
 
 false_true : false ≡ true → ⊥
 false_true e = cc

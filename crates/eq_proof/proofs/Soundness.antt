@@ -1,14 +1,12 @@
 -- Values that satisfy the clauses before a derivation satisfy its clause.
-use Rattle.std.proofs.Common.{◌≡◌, ◌≢◌, ℕ, ◌+◌, ◌-◌, ◌<◌, ◌≤◌, suc, zero, ◌⊎◌, inl, inr, Bool, true, false, not, List, [], ◌∷◌, ◌++◌, length, take, map, slice_get, get_or, Some, arith, refl, sym, ap, ◌∙◌, subst, add-one}
-use Rattle.std.specs.Prelude.{All, Any, Contains}
-use Rattle.std.proofs.lemmas.Bool.{cases_Bool, cases_lt}
+use Rattle.std.proofs.Common.{◌≡◌, ℕ, ◌-◌, ◌<◌, ◌≤◌, suc, zero, ◌⊎◌, inl, inr, Bool, true, false, not, List, [], ◌∷◌, ◌++◌, length, take, map, arith, refl, sym, ◌∙◌, subst}
+use Rattle.std.specs.Prelude.{All}
 use Rattle.std.proofs.lemmas.List.{take_all}
 use Rattle.std.proofs.lemmas.List.Elements.{All-push, All-contains, All-append, All-nil, All-cons}
-use Rattle.std.proofs.lemmas.Option.{slice_get_within, get_or_from_slice_get, slice_get-get_or}
 use Rattle.eq_proof.specs.Literal.{Literal, negation}
 use Rattle.eq_proof.specs.Inference.{Inference, clauses_of}
-use Rattle.eq_proof.specs.Sets.{IsConsistent, IsFalse, HasNoValue, IsFalsified, IsUnit}
-use Rattle.eq_proof.specs.Derivation.{HasNumber, Refutes, IsDerivation, clauses_before, DerivesAt, AllDerive, EndsEmpty}
+use Rattle.eq_proof.specs.Sets.{IsFalse, IsFalsified, IsUnit}
+use Rattle.eq_proof.specs.Derivation.{HasNumber, Refutes, IsDerivation, clauses_before, AllDerive, EndsEmpty}
 use Rattle.eq_proof.specs.Satisfying.{MakesTrue, Satisfies, SatisfiesAll, Unsatisfiable}
 use Rattle.eq_proof.proofs.Lists.{All-at, clauses_more}
 
@@ -33,10 +31,10 @@ satisfied_or_not : (values : ℕ → Bool) (clause : List Literal) → Satisfies
 satisfied_or_not values [] = inr (All-nil (MakesTrue values))
 satisfied_or_not values (l ∷ clause) =
     elim (true_or_negation values l) [
-      inl some ↦ inl (0, l, omega arith, refl, some)
-    | inr no_one ↦ elim (satisfied_or_not values clause) [
-        inl more ↦ inl (suc more.0, more.1, omega arith, more.3, more.4)
-      | inr none ↦ inr (All-cons (MakesTrue values) (negation l) (map negation clause) no_one none)
+      | inl some ↦ inl (0, l, omega arith, refl, some)
+      | inr no_one ↦ elim (satisfied_or_not values clause) [
+        | inl more ↦ inl (suc more.0, more.1, omega arith, more.3, more.4)
+        | inr none ↦ inr (All-cons (MakesTrue values) (negation l) (map negation clause) no_one none)
       ]
     ]
 
@@ -54,8 +52,8 @@ unit_true values set clause l all unit some =
     let P : Literal → Type 0 = λ m. (m ≡ l) ⊎ IsFalse set m in
     let one : P m = subst P some.3 (unit.others some.0 m some.2) in
     elim one [
-      inl is ↦ subst (MakesTrue values) is some.4
-    | inr false_one ↦ absurd (not_both values m some.4 (All-contains (MakesTrue values) set (negation m) all false_one))
+      | inl is ↦ subst (MakesTrue values) is some.4
+      | inr false_one ↦ absurd (not_both values m some.4 (All-contains (MakesTrue values) set (negation m) all false_one))
     ]
 
 numbered_satisfied : (values : ℕ → Bool) (clauses : List (List Literal)) (n : ℕ) (clause : List Literal) → SatisfiesAll values clauses → HasNumber clauses n clause → Satisfies values clause
@@ -74,8 +72,8 @@ not_refuted values clauses set (n ∷ m ∷ ns) all holds r =
 pub derivation_keeps : (before : List (List Literal)) (step : Inference) (values : ℕ → Bool) → IsDerivation before step → SatisfiesAll values before → Satisfies values step.clause
 derivation_keeps before step values d all =
     elim (satisfied_or_not values step.clause) [
-      inl some ↦ some
-    | inr none ↦ absurd (not_refuted values before (map negation step.clause) step.ants all none d.refuted)
+      | inl some ↦ some
+      | inr none ↦ absurd (not_refuted values before (map negation step.clause) step.ants all none d.refuted)
     ]
 
 -- and so do the first steps of a log

@@ -1,9 +1,7 @@
 -- A sweep over all clauses, one clause after the other.
 use Rattle.std.proofs.Common.{◌≡◌, ℕ, ◌+◌, ◌<◌, ◌≤◌, Bool, true, false, Some, List, [], ◌∷◌, ◌++◌, length, take, slice_get, arith, refl, sym, ap, ◌∙◌, subst}
-use Rattle.std.specs.Prelude.{All, Contains}
 use Rattle.std.proofs.lemmas.List.{length_push, take_all}
 use Rattle.std.proofs.lemmas.List.Elements.{All-push}
-use Rattle.std.proofs.lemmas.Option.{slice_get_within, get_or_from_slice_get}
 use Rattle.eq_proof.specs.Literal.{Literal}
 use Rattle.eq_proof.specs.Assigned.{Assigned}
 use Rattle.eq_proof.specs.Sets.{IsUnit, IsSubset}
@@ -74,6 +72,6 @@ swept_all clauses old new place changed finding swept all = found changed swept.
   found : (b : Bool) → (b ≡ true → (length old.lits < length new.lits) × (length new.lits ≤ new.size)) → (b ≡ false → (new.lits ≡ old.lits) × IsDone (take place clauses) new.lits) → MatchBool b (finding ≡ Changed) (finding ≡ Settled) → Sweeps clauses old new finding
   found true grown still is = subst (Sweeps clauses old new) (sym is) (grown refl)
   found false grown still is =
-    let P : List (List Literal) → Type 0 = λ some. IsDone some new.lits in
-    let settled : Sweeps clauses old new Settled = ((still refl).0, subst P (take_all place clauses all) (still refl).1) in
-    subst (Sweeps clauses old new) (sym is) settled
+      let P : List (List Literal) → Type 0 = λ some. IsDone some new.lits in
+      let settled : Sweeps clauses old new Settled = ((still refl).0, subst P (take_all place clauses all) (still refl).1) in
+      subst (Sweeps clauses old new) (sym is) settled

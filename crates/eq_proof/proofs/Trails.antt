@@ -1,7 +1,6 @@
 -- Trails with their marks: what a mark says, one literal more, one literal less.
-use Rattle.std.proofs.Common.{◌≡◌, ◌≢◌, ℕ, ◌+◌, ◌<◌, ◌≤◌, suc, zero, ◌⊎◌, inl, inr, Bool, true, false, not, cond, List, [], ◌∷◌, ◌++◌, length, set, get_or, arith, refl, sym, ap, ◌∙◌, subst, get_or-set_same, get_or-set_other, length-append}
-use Rattle.std.specs.Prelude.{All, Contains, count_by}
-use Rattle.std.specs.List.{AllPairs}
+use Rattle.std.proofs.Common.{◌≡◌, ◌≢◌, ℕ, ◌<◌, ◌≤◌, ◌⊎◌, inl, inr, Bool, true, false, not, cond, List, [], ◌∷◌, ◌++◌, length, set, get_or, arith, refl, sym, ap, ◌∙◌, subst, get_or-set_same, get_or-set_other}
+use Rattle.std.specs.Prelude.{All, Contains}
 use Rattle.std.proofs.lemmas.Bool.{cases_eq}
 use Rattle.std.proofs.lemmas.List.{length-set, length_push, get_or_append_left, get_or_push}
 use Rattle.std.proofs.lemmas.List.Elements.{All-push, All-contains, Contains-get_or, Contains-append_left, Contains-push, Contains-push_cases}
@@ -62,8 +61,8 @@ unmarked marks trail l t within none = open_mark (get_or marks l.var Open) l.pos
 apart_from : (trail : List Literal) (l m : Literal) → HasNoValue trail l → Contains trail m → m.var ≢ l.var
 apart_from trail l m none in_trail e =
     elim (same_variable m l e) [
-      inl same ↦ none.0 (subst (Contains trail) same in_trail)
-    | inr other ↦ none.1 (subst (Contains trail) other in_trail)
+      | inl same ↦ none.0 (subst (Contains trail) same in_trail)
+      | inr other ↦ none.1 (subst (Contains trail) other in_trail)
     ]
 
 -- one literal more
@@ -77,23 +76,23 @@ trail_assigned marks trail l t within none =
       apart = all_pairs_push (λ a b. a.var ≢ b.var) trail l t.apart (λ k d h. apart_from trail l (get_or trail k d) none (Contains-get_or trail k d h));
       within = let Q : ℕ → Type 0 = λ n. All (λ m. m.var < n) (trail ++ l ∷ []) in subst Q (sym len) (All-push (λ m. m.var < length marks) trail l t.within within);
       marked = λ m h. elim (Contains-push_cases trail l m h) [
-        inl old ↦ there m (apart_from trail l m none old) ∙ t.marked m old
-      | inr is ↦ let R : Literal → Type 0 = λ m. get_or new m.var Open ≡ mark_of m.positive in subst R is here
+        | inl old ↦ there m (apart_from trail l m none old) ∙ t.marked m old
+        | inr is ↦ let R : Literal → Type 0 = λ m. get_or new m.var Open ≡ mark_of m.positive in subst R is here
       ];
       listed = λ m h e. elim (cases_eq m.var l.var) [
-        inl same ↦
-          let signs : mark_of l.positive ≡ mark_of m.positive = sym here ∙ ap (λ v. get_or new v Open) (sym same) ∙ e in
-          let is : l ≡ m = literal_is l m (sym same) (same_mark l.positive m.positive signs) in
-          subst (Contains (trail ++ l ∷ [])) is (Contains-push trail l)
-      | inr ne ↦ Contains-append_left trail (l ∷ []) m (t.listed m (omega arith) (sym (there m ne) ∙ e))
+        | inl same ↦
+            let signs : mark_of l.positive ≡ mark_of m.positive = sym here ∙ ap (λ v. get_or new v Open) (sym same) ∙ e in
+            let is : l ≡ m = literal_is l m (sym same) (same_mark l.positive m.positive signs) in
+            subst (Contains (trail ++ l ∷ [])) is (Contains-push trail l)
+        | inr ne ↦ Contains-append_left trail (l ∷ []) m (t.listed m (omega arith) (sym (there m ne) ∙ e))
       ];
       counted =
-        let was : is_assigned (get_or marks l.var Open) ≡ false = ap is_assigned (unmarked marks trail l t within none) in
-        let now = marked_assigned l.positive in
-        let sums = sum_by-set (λ m. cond (is_assigned m) 1 0) marks l.var (mark_of l.positive) Open within in
-        let less : cond {A = ℕ} (is_assigned (get_or marks l.var Open)) 1 0 ≡ 0 = ap (λ b. cond {A = ℕ} b 1 0) was in
-        let more : cond {A = ℕ} (is_assigned (mark_of l.positive)) 1 0 ≡ 1 = ap (λ b. cond {A = ℕ} b 1 0) now in
-        omega (arith, t.counted, length_push trail l);
+          let was : is_assigned (get_or marks l.var Open) ≡ false = ap is_assigned (unmarked marks trail l t within none) in
+          let now = marked_assigned l.positive in
+          let sums = sum_by-set (λ m. cond (is_assigned m) 1 0) marks l.var (mark_of l.positive) Open within in
+          let less : cond {A = ℕ} (is_assigned (get_or marks l.var Open)) 1 0 ≡ 0 = ap (λ b. cond {A = ℕ} b 1 0) was in
+          let more : cond {A = ℕ} (is_assigned (mark_of l.positive)) 1 0 ≡ 1 = ap (λ b. cond {A = ℕ} b 1 0) now in
+          omega (arith, t.counted, length_push trail l);
     }
 
 -- one literal less
@@ -105,32 +104,32 @@ trail_popped marks trail l t =
     let within : l.var < length marks = All-contains (λ m. m.var < length marks) (trail ++ l ∷ []) l t.within (Contains-push trail l) in
     let there : (m : Literal) → m.var ≢ l.var → get_or new m.var Open ≡ get_or marks m.var Open = λ m ne. get_or-set_other marks l.var m.var Open Open ne in
     let earlier : (m : Literal) → Contains trail m → m.var ≢ l.var = λ m h.
-      let first : get_or (trail ++ l ∷ []) h.0 m ≡ m = get_or_append_left trail (l ∷ []) m h.0 h.1 ∙ h.2 in
-      let last : get_or (trail ++ l ∷ []) (length trail) m ≡ l = get_or_push trail l m (length trail) refl in
-      let apart = t.apart h.0 (length trail) m h.1 (omega arith) in
-      λ e. apart (ap (λ (a : Literal). a.var) first ∙ e ∙ ap (λ (a : Literal). a.var) (sym last)) in
+    let first : get_or (trail ++ l ∷ []) h.0 m ≡ m = get_or_append_left trail (l ∷ []) m h.0 h.1 ∙ h.2 in
+    let last : get_or (trail ++ l ∷ []) (length trail) m ≡ l = get_or_push trail l m (length trail) refl in
+    let apart = t.apart h.0 (length trail) m h.1 (omega arith) in
+    λ e. apart (ap (λ (a : Literal). a.var) first ∙ e ∙ ap (λ (a : Literal). a.var) (sym last)) in
     record {
       apart = λ i j d lt h.
-        let a = get_or_append_left trail (l ∷ []) d i (omega arith) in
-        let b = get_or_append_left trail (l ∷ []) d j h in
-        λ e. t.apart i j d lt (omega arith) (ap (λ (m : Literal). m.var) a ∙ e ∙ ap (λ (m : Literal). m.var) (sym b));
+          let a = get_or_append_left trail (l ∷ []) d i (omega arith) in
+          let b = get_or_append_left trail (l ∷ []) d j h in
+          λ e. t.apart i j d lt (omega arith) (ap (λ (m : Literal). m.var) a ∙ e ∙ ap (λ (m : Literal). m.var) (sym b));
       within = λ k d h.
-        let a = ap (λ (m : Literal). m.var) (get_or_append_left trail (l ∷ []) d k h) in
-        let below = t.within k d (omega arith) in
-        omega arith;
+          let a = ap (λ (m : Literal). m.var) (get_or_append_left trail (l ∷ []) d k h) in
+          let below = t.within k d (omega arith) in
+          omega arith;
       marked = λ m h. there m (earlier m h) ∙ t.marked m (Contains-append_left trail (l ∷ []) m h);
       listed = λ m h e. elim (cases_eq m.var l.var) [
-        inl same ↦ absurd (not_open m.positive (sym (get_or-set_same marks l.var Open Open within) ∙ ap (λ v. get_or new v Open) (sym same) ∙ e))
-      | inr ne ↦ elim (Contains-push_cases trail l m (t.listed m (omega arith) (sym (there m ne) ∙ e))) [
-          inl old ↦ old
-        | inr is ↦ absurd (ne (ap (λ (a : Literal). a.var) (sym is)))
+        | inl same ↦ absurd (not_open m.positive (sym (get_or-set_same marks l.var Open Open within) ∙ ap (λ v. get_or new v Open) (sym same) ∙ e))
+        | inr ne ↦ elim (Contains-push_cases trail l m (t.listed m (omega arith) (sym (there m ne) ∙ e))) [
+          | inl old ↦ old
+          | inr is ↦ absurd (ne (ap (λ (a : Literal). a.var) (sym is)))
         ]
       ];
       counted =
-        let sums = sum_by-set (λ m. cond (is_assigned m) 1 0) marks l.var Open Open within in
-        let was : is_assigned (get_or marks l.var Open) ≡ true = ap is_assigned (t.marked l (Contains-push trail l)) ∙ marked_assigned l.positive in
-        let more : cond {A = ℕ} (is_assigned (get_or marks l.var Open)) 1 0 ≡ 1 = ap (λ b. cond {A = ℕ} b 1 0) was in
-        omega (arith, t.counted);
+          let sums = sum_by-set (λ m. cond (is_assigned m) 1 0) marks l.var Open Open within in
+          let was : is_assigned (get_or marks l.var Open) ≡ true = ap is_assigned (t.marked l (Contains-push trail l)) ∙ marked_assigned l.positive in
+          let more : cond {A = ℕ} (is_assigned (get_or marks l.var Open)) 1 0 ≡ 1 = ap (λ b. cond {A = ℕ} b 1 0) was in
+          omega (arith, t.counted);
     }
 
 -- no more literals than variables

@@ -1,5 +1,5 @@
 -- Derivations: the steps of LRAT (Cruz-Filipe, Heule, Hunt, Kaufmann, Schneider-Kamp, 'Efficient Certified RAT Verification', 2017) without deletion and without RAT steps.
-use Rattle.std.specs.Prelude.{◌≡◌, ℕ, ◌-◌, ◌+◌, ◌<◌, Bool, nat_lt, List, [], ◌∷◌, ◌++◌, length, map, take, slice_get, Some, count_by}
+use Rattle.std.specs.Prelude.{◌≡◌, ℕ, ◌-◌, ◌<◌, nat_lt, List, [], ◌∷◌, ◌++◌, length, map, take, slice_get, Some, count_by}
 use Rattle.eq_proof.specs.Literal.{Literal, negation}
 use Rattle.eq_proof.specs.Inference.{Inference, clauses_of}
 use Rattle.eq_proof.specs.Sets.{IsConsistent, IsFalsified, IsUnit}

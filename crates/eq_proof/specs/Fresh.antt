@@ -1,8 +1,8 @@
 -- Freshness: a step whose clause says what unit propagation over the clauses before it doesn't give.
-use Rattle.std.specs.Prelude.{◌≡◌, ℕ, ◌<◌, ◌⊎◌, List, length, slice_get, Some, Option, All, Contains}
+use Rattle.std.specs.Prelude.{◌≡◌, ℕ, ◌<◌, List, length, slice_get, Some, All}
 use Rattle.eq_proof.specs.Literal.{Literal}
 use Rattle.eq_proof.specs.Inference.{Inference}
-use Rattle.eq_proof.specs.Sets.{IsConsistent, IsFalse, HasNoValue, IsFalsified, IsUnit}
+use Rattle.eq_proof.specs.Sets.{IsConsistent, IsFalsified, IsUnit}
 use Rattle.eq_proof.specs.Derivation.{clauses_before}
 
 -- a consistent set under which no clause is falsified and none is unit

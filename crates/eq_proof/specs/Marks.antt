@@ -1,7 +1,7 @@
 -- A set of true literals as marks for each variable and a trail.
-use Rattle.std.specs.Prelude.{◌≡◌, ◌≢◌, ℕ, ◌<◌, Bool, true, false, not, List, length, All, Contains, count_by, slice_index_or}
+use Rattle.std.specs.Prelude.{◌≡◌, ◌≢◌, ◌<◌, Bool, true, false, List, length, All, Contains, count_by, slice_index_or}
 use Rattle.std.specs.List.{AllPairs}
-use Rattle.eq_proof.specs.Literal.{Literal, negation}
+use Rattle.eq_proof.specs.Literal.{Literal}
 use Rattle.eq_proof.specs.Sets.{IsFalse, HasNoValue}
 use Rattle.eq_proof.specs.declared.trail.Mark.{Mark}
 use Rattle.eq_proof.specs.declared.trail.Mark.TheVariants.{Open, Positive, Negative}

@@ -1,7 +1,7 @@
 -- Unit propagation as what it comes to: the least set that has what it began with and is settled.
-use Rattle.std.specs.Prelude.{◌≡◌, ℕ, ◌<◌, ◌≤◌, ◌⊎◌, List, length, All}
+use Rattle.std.specs.Prelude.{◌≡◌, ◌<◌, ◌≤◌, ◌⊎◌, List, length, All}
 use Rattle.eq_proof.specs.Literal.{Literal}
-use Rattle.eq_proof.specs.Sets.{IsConsistent, IsFalse, IsSubset}
+use Rattle.eq_proof.specs.Sets.{IsFalse, IsSubset}
 use Rattle.eq_proof.specs.Fresh.{IsSettled}
 use Rattle.eq_proof.specs.Judgement.{IsJudged}
 use Rattle.eq_proof.specs.Assigned.{Assigned}

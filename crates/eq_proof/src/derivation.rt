@@ -15,7 +15,12 @@ use eq_base::Memory;
 /// Whether a step with this clause and these antecedents is a derivation. The trail is empty before and after.
 ///
 /// The cost is the length of the clause and of the antecedents that are visited.
-pub fn derives(trail: &mut Trail, before: &Earlier<'_>, clause: &[Lit], ants: &[u64]) -> Result<bool, Memory>
+pub fn derives(
+    trail: &mut Trail,
+    before: &Earlier<'_>,
+    clause: &[Lit],
+    ants: &[u64],
+) -> Result<bool, Memory>
     requires empty { trail.old.lits ≡ [] }
     requires ordered { IsClause clause.now }
     requires clause_below { AllBelow trail.old.size clause.now }

@@ -56,7 +56,12 @@ fn is_fresh(trail: &mut Trail, before: &Earlier<'_>, clause: &[Lit]) -> Result<b
 }
 
 // Whether some settled set makes a clause unit with this literal of it open. The trail is empty before and after.
-fn leaves_open(trail: &mut Trail, before: &Earlier<'_>, clause: &[Lit], l: Lit) -> Result<bool, Memory>
+fn leaves_open(
+    trail: &mut Trail,
+    before: &Earlier<'_>,
+    clause: &[Lit],
+    l: Lit,
+) -> Result<bool, Memory>
     requires empty { trail.old.lits ≡ [] }
     requires member { Contains clause.now l }
     requires clause_below { AllBelow trail.old.size clause.now }
@@ -71,7 +76,12 @@ fn leaves_open(trail: &mut Trail, before: &Earlier<'_>, clause: &[Lit], l: Lit) 
 }
 
 // The same, with a trail that isn't empty afterwards.
-fn closure_leaves_open(trail: &mut Trail, before: &Earlier<'_>, clause: &[Lit], l: Lit) -> Result<bool, Memory>
+fn closure_leaves_open(
+    trail: &mut Trail,
+    before: &Earlier<'_>,
+    clause: &[Lit],
+    l: Lit,
+) -> Result<bool, Memory>
     requires empty { trail.old.lits ≡ [] }
     requires member { Contains clause.now l }
     requires clause_below { AllBelow trail.old.size clause.now }

@@ -9,20 +9,8 @@ pub fn value_by(mark: Mark, positive: bool) -> Value
 {
     match mark {
         Mark::Open => Value::Unassigned,
-        Mark::Positive => {
-            if positive {
-                Value::True
-            } else {
-                Value::False
-            }
-        }
-        Mark::Negative => {
-            if positive {
-                Value::False
-            } else {
-                Value::True
-            }
-        }
+        Mark::Positive => { if positive { Value::True } else { Value::False } }
+        Mark::Negative => { if positive { Value::False } else { Value::True } }
     }
 }
 

@@ -65,5 +65,9 @@ fn sweep(trail: &mut Trail, before: &Earlier<'_>) -> Result<Finding, Memory>
 fn found(changed: bool) -> Finding
     ensures { MatchBool changed (result ≡ Finding.Changed) (result ≡ Finding.Settled) }
 {
-    if changed { Finding::Changed } else { Finding::Settled }
+    if changed {
+        Finding::Changed
+    } else {
+        Finding::Settled
+    }
 }

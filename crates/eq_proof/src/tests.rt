@@ -30,7 +30,13 @@ fn formula(rt: &impl Abort, alloc: Global, vars: u32, rows: &[&[i16]]) -> Result
     Ok(Formula { vars, clauses })
 }
 
-fn add(rt: &impl Abort, alloc: Global, log: &mut Log, numbers: &[i16], ants: &[u64]) -> Result<(), Memory> {
+fn add(
+    rt: &impl Abort,
+    alloc: Global,
+    log: &mut Log,
+    numbers: &[i16],
+    ants: &[u64],
+) -> Result<(), Memory> {
     assert!(rt; Step::are_from_one(ants));
     assert!(rt; log.len() < 1000);
     log.push(Step {
@@ -126,18 +132,37 @@ const FRESHNESS: [(&[i16], bool); 9] = [
     (&[], false),
 ];
 
+// Whether a log is checked so, and whether its first stale step is this one.
+fn expect(
+    rt: &impl Abort,
+    alloc: Global,
+    f: &Formula,
+    log: &Log,
+    checked: Result<Checked, CheckErr>,
+    stale: Option<u32>,
+) {
+    assert_eq!(rt; check(alloc, f, log), checked);
+    assert_eq!(rt; first_stale(alloc, f, log), Ok(stale));
+}
+
+fn accepted(nonempty: u64, ends: bool) -> Result<Checked, CheckErr> {
+    Ok(Checked { nonempty, ends })
+}
+
+fn bad(index: u32) -> Result<Checked, CheckErr> {
+    Err(CheckErr::BadStep { index })
+}
+
 #[test]
 fn clash(rt: HostRuntime) -> Result<(), Fail> {
     let alloc = rt.alloc();
     let f = formula(&rt, alloc, 1, &CLASH)?;
-    let good = log(&rt, alloc, &[(&[], &[1, 2])])?;
-    assert_eq!(rt; check(alloc, &f, &good), Ok(Checked { nonempty: 0, ends: true }));
-    assert_eq!(rt; first_stale(alloc, &f, &good), Ok(Some(0)));
+    let whole = log(&rt, alloc, &[(&[], &[1, 2])])?;
+    expect(&rt, alloc, &f, &whole, accepted(0, true), Some(0));
     let short = log(&rt, alloc, &[(&[], &[2])])?;
-    assert_eq!(rt; check(alloc, &f, &short), Err(CheckErr::BadStep { index: 0 }));
+    expect(&rt, alloc, &f, &short, bad(0), Some(0));
     let empty = Log::new(alloc);
-    assert_eq!(rt; check(alloc, &f, &empty), Ok(Checked { nonempty: 0, ends: false }));
-    assert_eq!(rt; first_stale(alloc, &f, &empty), Ok(None));
+    expect(&rt, alloc, &f, &empty, accepted(0, false), None);
     Ok(())
 }
 
@@ -145,17 +170,15 @@ fn clash(rt: HostRuntime) -> Result<(), Fail> {
 fn pigeons(rt: HostRuntime) -> Result<(), Fail> {
     let alloc = rt.alloc();
     let f = formula(&rt, alloc, 12, &PIGEONS)?;
-    let whole = log(&rt, alloc, &REFUTATION)?;
-    assert_eq!(rt; check(alloc, &f, &whole), Ok(Checked { nonempty: 7, ends: true }));
     // once number 26 is there, propagation gives -6 from 2 and -2 from 6
-    assert_eq!(rt; first_stale(alloc, &f, &whole), Ok(Some(4)));
+    let whole = log(&rt, alloc, &REFUTATION)?;
+    expect(&rt, alloc, &f, &whole, accepted(7, true), Some(4));
     let part = log(&rt, alloc, &REFUTATION[..4])?;
-    assert_eq!(rt; check(alloc, &f, &part), Ok(Checked { nonempty: 4, ends: false }));
-    assert_eq!(rt; first_stale(alloc, &f, &part), Ok(None));
+    expect(&rt, alloc, &f, &part, accepted(4, false), None);
     // number 16 isn't falsified at the end of the fourth step
     let mut wrong = log(&rt, alloc, &REFUTATION[..3])?;
     add(&rt, alloc, &mut wrong, &[-2, -4], &[12, 13, 8, 9, 3, 4, 16])?;
-    assert_eq!(rt; check(alloc, &f, &wrong), Err(CheckErr::BadStep { index: 3 }));
+    expect(&rt, alloc, &f, &wrong, bad(3), None);
     Ok(())
 }
 
@@ -165,7 +188,7 @@ fn wrong_steps(rt: HostRuntime) -> Result<(), Fail> {
     let f = formula(&rt, alloc, 12, &PIGEONS)?;
     for row in &WRONG {
         let one = log(&rt, alloc, &[*row])?;
-        assert_eq!(rt; check(alloc, &f, &one), Err(CheckErr::BadStep { index: 0 }));
+        assert_eq!(rt; check(alloc, &f, &one), bad(0));
     }
     Ok(())
 }
@@ -188,5 +211,23 @@ fn clauses_in_order(rt: HostRuntime) -> Result<(), Fail> {
     let made = clause(&rt, alloc, &[3, -1, 1, -1, 3])?;
     let wanted = lits(&rt, alloc, &[1, -1, 3])?;
     assert_eq!(rt; made.lits(), wanted.as_slice());
+    Ok(())
+}
+
+// What may move between threads and be shared by them.
+fn crosses<T: Send + Sync>(_value: &T) {}
+
+#[test]
+fn threads(rt: HostRuntime) -> Result<(), Fail> {
+    let alloc = rt.alloc();
+    let f = formula(&rt, alloc, 1, &CLASH)?;
+    crosses(&f);
+    crosses(&Log::new(alloc));
+    let step = Step {
+        clause: clause(&rt, alloc, &[1])?,
+        ants: Numbers::new(alloc),
+    };
+    crosses(&step);
+    crosses(&CheckErr::Memory);
     Ok(())
 }

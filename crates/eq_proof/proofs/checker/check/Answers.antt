@@ -1,5 +1,5 @@
-use Rattle.std.proofs.Common.{◌≡◌, ℕ, Bool, cond, Some, slice_get, IsTrue, ap₂, ◌+◌, ◌<◌, ◌≤◌, ◌↔◌, max, List, length, take, arith, refl, sym, ap, ◌∙◌, subst, below_more}
-use Rattle.std.specs.Prelude.{All, sum_by}
+use Rattle.std.proofs.Common.{◌≡◌, ℕ, Bool, cond, Some, slice_get, IsTrue, ap₂, ◌+◌, ◌≤◌, ◌↔◌, max, List, length, take, arith, sym, ◌∙◌, subst, below_more}
+use Rattle.std.specs.Prelude.{All}
 use Rattle.eq_proof.specs.Literal.{Literal}
 use Rattle.std.proofs.lemmas.Bool.Decides.{nat_tests}
 use Rattle.std.proofs.lemmas.List.{take_all}
@@ -31,7 +31,7 @@ loop-index-preserved c =
     let derived : DerivesAt c.args.f.now.clauses log index = (step, at, subst P c.new-before.ensures (c.in_ok-derives.ensures.answer.0 c.if-not-branch.false)) in
     let count = c.counted-checked.ensures in
     let nonempty : c.counted-checked.result.nonempty ≡ nonempty_of (take (index + 1) log) =
-      count.nonempty ∙ ap₂ (λ n b. n + cond {A = ℕ} b 0 1) c.loop-index.invariant.nonempty c.is_empty.ensures ∙ sym (nonempty_more log index step at) in
+    count.nonempty ∙ ap₂ (λ n b. n + cond {A = ℕ} b 0 1) c.loop-index.invariant.nonempty c.is_empty.ensures ∙ sym (nonempty_more log index step at) in
     let few : cond {A = ℕ} c.is_empty.result 0 1 ≤ 1 = grind (arith, nat_tests) in
     let Q : Bool → Type 0 = λ b. IsTrue b ↔ EndsEmpty (take (index + 1) log) in
     record {
@@ -48,4 +48,4 @@ returns-clause-refuted c =
     let end : length c.args.log.now ≤ c.loop-index.index = omega arith in
     let P : List Inference → Type 0 = EndsEmpty in
     λ ends. refutation c.args.f.now.clauses c.args.log.now (λ k h. c.loop-index.invariant.derived k (omega arith))
-      (subst P (take_all c.loop-index.index c.args.log.now end) (c.loop-index.invariant.ends.0 ends))
+    (subst P (take_all c.loop-index.index c.args.log.now end) (c.loop-index.invariant.ends.0 ends))

@@ -1,4 +1,4 @@
-use Rattle.std.proofs.Common.{◌≡◌, ◌↔◌, ◌≤◌, ◌<◌, ◌+◌, ℕ, [], take, IsTrue, max}
+use Rattle.std.proofs.Common.{◌≡◌, ◌↔◌, ◌≤◌, ◌<◌, ℕ, [], take, IsTrue}
 use Rattle.eq_proof.specs.Derivation.{DerivesAt, EndsEmpty, nonempty_of}
 use Rattle.eq_proof.proofs.checker.check.Given as goal
 
@@ -9,5 +9,5 @@ invariant-loop-index l = record {
   derived : (k : ℕ) → k < l.index → DerivesAt l.f.clauses l.log k;
   nonempty : l.checked.nonempty ≡ nonempty_of (take l.index l.log);
   few : l.checked.nonempty ≤ l.index;
-  ends : IsTrue l.checked.ends ↔ EndsEmpty (take l.index l.log)
+  ends : IsTrue l.checked.ends ↔ EndsEmpty (take l.index l.log);
 }

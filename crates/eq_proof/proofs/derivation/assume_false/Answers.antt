@@ -1,4 +1,4 @@
-use Rattle.std.proofs.Common.{◌≡◌, ◌+◌, ◌<◌, ◌≤◌, arith, length, take, map, List, ◌++◌, ◌∷◌, [], sym, ap, ◌∙◌, subst, refl}
+use Rattle.std.proofs.Common.{arith, take, map, List, ◌∙◌, subst, refl}
 use Rattle.std.specs.Prelude.{Contains}
 use Rattle.std.proofs.lemmas.List.{take_all, map_push}
 use Rattle.eq_proof.specs.Literal.{Literal, negation}

@@ -7,5 +7,5 @@ abbrev pub invariant-loop-l : goal.invariant-loop-l
 invariant-loop-l l = record {
   size : l.trail.size ≡ l.initial.trail.size;
   lits : l.trail.lits ≡ map negation (take l.l-index l.clause);
-  consistent : IsConsistent (take l.l-index l.clause)
+  consistent : IsConsistent (take l.l-index l.clause);
 }

@@ -1,5 +1,4 @@
-use Rattle.std.proofs.Common.{◌≡◌, ℕ, ◌+◌, ◌<◌, ◌≤◌, ◌↔◌, arith, length, get_or, drop, List, ◌++◌, ◌∷◌, [], sym, ap, ◌∙◌, subst}
-use Rattle.std.specs.Prelude.{Contains, All}
+use Rattle.std.proofs.Common.{ℕ, ◌+◌, ◌<◌, ◌↔◌, length, get_or, drop, List, ◌∷◌, ◌∙◌, subst}
 use Rattle.std.proofs.lemmas.List.{drop_more}
 use Rattle.std.proofs.lemmas.List.Elements.{All-contains}
 use Rattle.eq_proof.specs.Literal.{Literal}
@@ -16,7 +15,7 @@ left before set ants place P within e = subst (λ (ns : List ℕ). P ↔ Refutes
 pub returns-in_default-clause-answer : goal.returns-in_default-clause-answer
 returns-in_default-clause-answer c =
     never_by (left _ _ c.args.ants.now c.loop-place.place _ c.loop-place-test.true c.loop-place.invariant.same)
-      (refutes_none c.args.before.now c.loop-place.trail.lits (get_or c.args.ants.now c.loop-place.place 0) _ c.in_default.ensures.none)
+    (refutes_none c.args.before.now c.loop-place.trail.lits (get_or c.args.ants.now c.loop-place.place 0) _ c.in_default.ensures.none)
 
 pub judge-requires-clause-below : goal.judge-requires-clause-below
 judge-requires-clause-below c =
@@ -38,7 +37,7 @@ assign-requires-clause-within c =
 pub returns-in-Idle-clause-answer : goal.returns-in-Idle-clause-answer
 returns-in-Idle-clause-answer c =
     never_by (left _ _ c.args.ants.now c.loop-place.place _ c.loop-place-test.true c.loop-place.invariant.same)
-      (refutes_idle c.args.before.now c.loop-place.trail.lits (get_or c.args.ants.now c.loop-place.place 0) _ c.in-Some.clause.now c.in-Some.ensures.found c.in-Idle.ensures)
+    (refutes_idle c.args.before.now c.loop-place.trail.lits (get_or c.args.ants.now c.loop-place.place 0) _ c.in-Some.clause.now c.in-Some.ensures.found c.in-Idle.ensures)
 
 pub loop-place-preserved : goal.loop-place-preserved
 loop-place-preserved c =

@@ -1,5 +1,4 @@
-use Rattle.std.proofs.Common.{◌≡◌, ◌≢◌, ◌+◌, ◌<◌, ◌≤◌, arith, length, take, List, ◌++◌, ◌∷◌, [], refl, sym, ap, ◌∙◌, subst}
-use Rattle.std.specs.Prelude.{Contains}
+use Rattle.std.proofs.Common.{◌≡◌, arith, take, List, ◌++◌, ◌∷◌, [], sym, ap, ◌∙◌, subst}
 use Rattle.std.proofs.lemmas.List.{take_all}
 use Rattle.eq_proof.specs.Literal.{Literal, negation}
 use Rattle.eq_proof.specs.Sets.{IsSubset}
@@ -34,22 +33,22 @@ loop-m-preserved c =
     let differ = differ_when m c.args.l (sym c.if-eq.ensures) in
     let member = read_member c.args.clause.now c.loop-m.m-index m (omega arith) c.m-item.is in
     elim c.match-value.branch [
-      in-Unassigned+in_ok-assign-in-Unassigned w ↦
-        let step = w.in_ok-assign-in-Unassigned.ensures in
-        let lits : w.assign.new.self.lits ≡ c.loop-m.trail.lits ++ negation m ∷ [] = step.ok ∙ ap (λ n. c.loop-m.trail.lits ++ n ∷ []) w.negation.ensures in
-        let P : List Literal → Type 0 = λ lits. OthersFalse lits (seen ++ m ∷ []) c.args.l in
-        let Q : List Literal → Type 0 = λ lits. (set : List Literal) → OthersFalse set c.args.clause.now c.args.l → IsSubset lits set in
-        rw w.trail-is (record {
-          size = step.size ∙ c.loop-m.invariant.size;
-          others = rw more (subst P (sym lits) (others_assigned c.loop-m.trail.lits seen c.args.l m c.loop-m.invariant.others));
-          least = subst Q (sym lits) (least_assigned c.loop-m.trail.lits c.args.clause.now c.args.l m member differ c.loop-m.invariant.least);
-        })
-    | in-False w ↦
-        rw w.trail-is (record {
-          size = c.loop-m.invariant.size;
-          others = rw more (others_false c.loop-m.trail.lits seen c.args.l m w.in-False.ensures.value.0 c.loop-m.invariant.others);
-          least = c.loop-m.invariant.least;
-        })
+      | in-Unassigned+in_ok-assign-in-Unassigned w ↦
+          let step = w.in_ok-assign-in-Unassigned.ensures in
+          let lits : w.assign.new.self.lits ≡ c.loop-m.trail.lits ++ negation m ∷ [] = step.ok ∙ ap (λ n. c.loop-m.trail.lits ++ n ∷ []) w.negation.ensures in
+          let P : List Literal → Type 0 = λ lits. OthersFalse lits (seen ++ m ∷ []) c.args.l in
+          let Q : List Literal → Type 0 = λ lits. (set : List Literal) → OthersFalse set c.args.clause.now c.args.l → IsSubset lits set in
+          rw w.trail-is (record {
+            size = step.size ∙ c.loop-m.invariant.size;
+            others = rw more (subst P (sym lits) (others_assigned c.loop-m.trail.lits seen c.args.l m c.loop-m.invariant.others));
+            least = subst Q (sym lits) (least_assigned c.loop-m.trail.lits c.args.clause.now c.args.l m member differ c.loop-m.invariant.least);
+          })
+      | in-False w ↦
+          rw w.trail-is (record {
+            size = c.loop-m.invariant.size;
+            others = rw more (others_false c.loop-m.trail.lits seen c.args.l m w.in-False.ensures.value.0 c.loop-m.invariant.others);
+            least = c.loop-m.invariant.least;
+          })
     ]
 
 pub returns-clause-possible : goal.returns-clause-possible

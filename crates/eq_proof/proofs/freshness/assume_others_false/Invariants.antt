@@ -8,5 +8,5 @@ abbrev pub invariant-loop-m : goal.invariant-loop-m
 invariant-loop-m l = record {
   size : l.trail.size ≡ l.initial.trail.size;
   others : OthersFalse l.trail.lits (take l.m-index l.clause) l.l;
-  least : (set : List Literal) → OthersFalse set l.clause l.l → IsSubset l.trail.lits set
+  least : (set : List Literal) → OthersFalse set l.clause l.l → IsSubset l.trail.lits set;
 }

@@ -1,8 +1,7 @@
-use Rattle.std.proofs.Common.{◌≡◌, ◌↔◌, Bool, true, false, IsTrue, List, refl, sym, subst}
-use Rattle.std.specs.Prelude.{Contains, MatchBool}
-use Rattle.eq_proof.specs.Literal.{Literal, negation}
-use Rattle.eq_proof.specs.Sets.{IsUnit, IsSubset}
-use Rattle.eq_proof.specs.Fresh.{IsSettled, IsOpenFor}
+use Rattle.std.proofs.Common.{Bool, refl, subst}
+use Rattle.std.specs.Prelude.{MatchBool}
+use Rattle.eq_proof.specs.Literal.{negation}
+use Rattle.eq_proof.specs.Sets.{IsUnit}
 use Rattle.eq_proof.specs.Propagation.{OthersFalse, IsDone, IsRefused}
 use Rattle.eq_proof.proofs.Refuting.{never}
 use Rattle.eq_proof.proofs.Forcing.{others_kept, settled_when_done}

@@ -1,4 +1,4 @@
-use Rattle.std.proofs.Common.{◌≡◌, ℕ, Some, slice_get, ◌+◌, ◌<◌, ◌≤◌, ◌↔◌, max, List, length, arith, refl, sym, ap, ◌∙◌, subst, below_more}
+use Rattle.std.proofs.Common.{◌≡◌, Some, slice_get, ◌+◌, ◌≤◌, max, List, arith, ◌∙◌, subst, below_more}
 use Rattle.std.specs.Prelude.{All}
 use Rattle.eq_proof.specs.Literal.{Literal}
 use Rattle.eq_proof.specs.Inference.{Inference}

@@ -6,5 +6,5 @@ abbrev pub invariant-loop-index : goal.invariant-loop-index
 invariant-loop-index l = record {
   size : l.trail.size ≡ l.initial.trail.size;
   empty : l.trail.lits ≡ [];
-  fresh : (k : ℕ) → k < l.index → FreshAt l.f.clauses l.log k
+  fresh : (k : ℕ) → k < l.index → FreshAt l.f.clauses l.log k;
 }

@@ -1,9 +1,9 @@
-use Rattle.std.proofs.Common.{◌≡◌, ◌+◌, ◌<◌, ◌≤◌, ◌↔◌, Bool, true, false, IsTrue, List, take, length, arith, refl, sym, ap, ◌∙◌, subst}
-use Rattle.std.specs.Prelude.{Contains, All}
+use Rattle.std.proofs.Common.{◌≡◌, true, false, List, take, arith, sym, ◌∙◌, subst}
+use Rattle.std.specs.Prelude.{All}
 use Rattle.std.proofs.lemmas.List.{take_all}
 use Rattle.std.proofs.lemmas.List.Elements.{All-push, All-contains}
 use Rattle.eq_proof.specs.Literal.{Literal}
-use Rattle.eq_proof.specs.Fresh.{IsOpenFor, IsFresh}
+use Rattle.eq_proof.specs.Fresh.{IsOpenFor}
 use Rattle.eq_proof.proofs.Judging.{taken_more}
 use Rattle.eq_proof.proofs.Refuting.{never}
 use Rattle.eq_proof.proofs.freshness.is_fresh.Goals as goal

@@ -7,5 +7,5 @@ abbrev pub invariant-loop-l : goal.invariant-loop-l
 invariant-loop-l l = record {
   size : l.trail.size ≡ l.initial.trail.size;
   empty : l.trail.lits ≡ [];
-  none : All (λ m. ¬ IsOpenFor l.before l.clause m) (take l.l-index l.clause)
+  none : All (λ m. ¬ IsOpenFor l.before l.clause m) (take l.l-index l.clause);
 }

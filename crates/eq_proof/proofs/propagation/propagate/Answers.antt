@@ -1,6 +1,5 @@
-use Rattle.std.proofs.Common.{◌≡◌, subst}
+use Rattle.std.proofs.Common.{subst}
 use Rattle.eq_proof.specs.Propagation.{Sweeps}
-use Rattle.eq_proof.specs.declared.propagation.Finding.{Finding}
 use Rattle.eq_proof.proofs.propagation.propagate.Goals as goal
 
 pub returns-in-Conflicting-clause-answer : goal.returns-in-Conflicting-clause-answer

@@ -7,7 +7,7 @@ abbrev pub invariant-loop : goal.invariant-loop
 invariant-loop l = record {
   size : l.trail.size ≡ l.initial.trail.size;
   kept : IsSubset l.initial.trail.lits l.trail.lits;
-  forced : IsForced l.before l.initial.trail.lits l.trail.lits
+  forced : IsForced l.before l.initial.trail.lits l.trail.lits;
 }
 
 abbrev pub decreases-loop : goal.decreases-loop

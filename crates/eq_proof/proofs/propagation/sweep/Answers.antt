@@ -1,11 +1,9 @@
-use Rattle.std.proofs.Common.{◌≡◌, ℕ, ◌+◌, ◌<◌, ◌≤◌, arith, length, List, refl, sym, ap, ◌∙◌, subst}
-use Rattle.std.specs.Prelude.{Contains, All}
+use Rattle.std.proofs.Common.{◌<◌, arith}
 use Rattle.std.proofs.lemmas.List.Elements.{All-contains}
-use Rattle.eq_proof.specs.Literal.{Literal}
-use Rattle.eq_proof.specs.Assigned.{AllBelow, Assigned}
+use Rattle.eq_proof.specs.Assigned.{AllBelow}
 use Rattle.eq_proof.proofs.Lists.{All-at, member_at}
 use Rattle.eq_proof.proofs.Forcing.{refused_by}
-use Rattle.eq_proof.proofs.Sweeping.{IsSwept, swept_start, swept_unit, swept_idle, swept_all}
+use Rattle.eq_proof.proofs.Sweeping.{swept_start, swept_unit, swept_idle, swept_all}
 use Rattle.eq_proof.proofs.propagation.sweep.Goals as goal
 use Rattle.eq_proof.proofs.propagation.sweep.Goals.{in-Propagates+in_ok-assign-in-Propagates, in-Idle}
 
@@ -27,11 +25,11 @@ loop-place-init c = swept_start c.args.before.now c.args.trail.now
 pub loop-place-preserved : goal.loop-place-preserved
 loop-place-preserved c =
     elim c.match-judge.branch [
-      in-Propagates+in_ok-assign-in-Propagates w ↦
-        rw (w.trail-is, w.changed-is) (swept_unit c.args.before.now c.args.trail.now c.loop-place.trail w.assign.new.self c.loop-place.place c.loop-place.changed c.at.result.now w.in-Propagates.l c.loop-place.invariant c.at.ensures.clause w.in-Propagates.ensures
+      | in-Propagates+in_ok-assign-in-Propagates w ↦
+          rw (w.trail-is, w.changed-is) (swept_unit c.args.before.now c.args.trail.now c.loop-place.trail w.assign.new.self c.loop-place.place c.loop-place.changed c.at.result.now w.in-Propagates.l c.loop-place.invariant c.at.ensures.clause w.in-Propagates.ensures
           w.in_ok-assign-in-Propagates.ensures.ok w.in_ok-assign-in-Propagates.ensures.room w.in_ok-assign-in-Propagates.ensures.size)
-    | in-Idle w ↦
-        rw (w.trail-is, w.changed-is) (swept_idle c.args.before.now c.args.trail.now c.loop-place.trail c.loop-place.place c.loop-place.changed c.at.result.now c.loop-place.invariant c.at.ensures.clause w.in-Idle.ensures)
+      | in-Idle w ↦
+          rw (w.trail-is, w.changed-is) (swept_idle c.args.before.now c.args.trail.now c.loop-place.trail c.loop-place.place c.loop-place.changed c.at.result.now c.loop-place.invariant c.at.ensures.clause w.in-Idle.ensures)
     ]
 
 pub returns-clause-answer : goal.returns-clause-answer

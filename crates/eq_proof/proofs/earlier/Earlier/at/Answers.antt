@@ -1,4 +1,4 @@
-use Rattle.std.proofs.Common.{◌≡◌, ◌+◌, ◌-◌, ◌<◌, ◌≤◌, arith, rules, length}
+use Rattle.std.proofs.Common.{arith, rules}
 use Rattle.eq_proof.proofs.Before.{length-before, get_left, step_before}
 use Rattle.eq_proof.proofs.earlier.Earlier.at.Goals as goal
 

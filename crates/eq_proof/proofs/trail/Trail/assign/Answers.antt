@@ -1,4 +1,3 @@
-use Rattle.std.proofs.Common.{◌≡◌, ◌≤◌, ◌<◌, ◌++◌, ◌∷◌, [], length, ap, sym}
 use Rattle.eq_proof.proofs.Trails.{trail_assigned, trail_room}
 use Rattle.eq_proof.proofs.trail.Trail.assign.Goals as goal
 

@@ -1,4 +1,4 @@
-use Rattle.std.proofs.Common.{◌≡◌, ◌≤◌, ◌<◌, ◌++◌, ◌∷◌, [], length, ap, sym, List, subst}
+use Rattle.std.proofs.Common.{List, subst}
 use Rattle.eq_proof.specs.Literal.{Literal}
 use Rattle.eq_proof.specs.Marks.{IsTrail}
 use Rattle.eq_proof.proofs.Trails.{trail_popped}

@@ -1,4 +1,3 @@
-use Rattle.std.proofs.Common.{◌≡◌, ◌<◌, length, ap, sym, ◌∙◌}
 use Rattle.std.proofs.lemmas.List.{get_or_read}
 use Rattle.eq_proof.specs.declared.trail.Mark.TheVariants.{Open}
 use Rattle.eq_proof.proofs.Trails.{trail_value, trail_consistent}
