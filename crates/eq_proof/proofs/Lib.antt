@@ -1,0 +1,13 @@
+pub mod Division
+pub mod Sorting
+pub mod Lists
+pub mod Soundness
+pub mod Trails
+pub mod Judging
+pub mod Before
+pub mod Negations
+pub mod Refuting
+pub mod Checking
+pub mod Staleness
+pub mod Forcing
+pub mod Sweeping

@@ -1,0 +1,13 @@
+pub mod Literal
+pub mod Rows
+pub mod Clause
+pub mod Inference
+pub mod Satisfying
+pub mod Sets
+pub mod Derivation
+pub mod Fresh
+pub mod Assigned
+pub mod Marks
+pub mod Judgement
+pub mod Laws
+pub mod Propagation

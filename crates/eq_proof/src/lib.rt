@@ -1,0 +1,32 @@
+//! Clauses, formulas and logs of derivations, and the checker of logs.
+#![tactic(auto)]
+
+pub mod checker;
+pub mod clause;
+pub mod clauses;
+mod derivation;
+mod earlier;
+pub mod formula;
+pub mod freshness;
+mod judgement;
+pub mod laws;
+pub mod lit;
+pub mod log;
+mod marks;
+mod propagation;
+pub mod rows;
+pub mod step;
+mod trail;
+mod variables;
+
+pub use checker::{CheckErr, Checked, check};
+pub use clause::Clause;
+pub use clauses::Clauses;
+pub use formula::Formula;
+pub use freshness::first_stale;
+pub use lit::Lit;
+pub use log::{Log, StepRef};
+pub use step::Step;
+
+#[cfg(test)]
+mod tests;
