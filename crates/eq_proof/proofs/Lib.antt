@@ -5,6 +5,7 @@ pub mod Numerals
 pub mod WordLists
 pub mod Lines
 pub mod FormulaTexts
+pub mod LogTexts
 pub mod Soundness
 pub mod Trails
 pub mod Judging

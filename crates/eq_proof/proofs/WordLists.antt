@@ -4,14 +4,14 @@ use Rattle.std.specs.Prelude.{All}
 use Rattle.std.specs.Fmt.{decimal}
 use Rattle.std.specs.List.{AllPairs}
 use Rattle.std.proofs.lemmas.Bool.{cases_lt}
-use Rattle.std.proofs.lemmas.Fmt.{first_decimal, decimal_nonempty}
+use Rattle.std.proofs.lemmas.Fmt.{first_decimal, decimal_nonempty, decimal_digit}
 use Rattle.std.proofs.lemmas.List.{append-nil, append_assoc, length_push, length-append, get_or_append_left, get_or_push}
 use Rattle.std.proofs.lemmas.List.Elements.{All-head, All-tail}
 use Rattle.std.proofs.lemmas.List.Quantifiers.{all_pairs_push}
 use Rattle.std.proofs.lemmas.Option.{slice_get_within, get_or_from_slice_get}
 use Rattle.eq_proof.specs.Literal.{Literal, literal_is}
 use Rattle.eq_proof.specs.Clause.{IsBefore, IsClause}
-use Rattle.eq_proof.specs.Text.{words, ended_words, literal_word, IsUpTo}
+use Rattle.eq_proof.specs.Text.{words, ended_words, literal_word, IsUpTo, IsNumber}
 use Rattle.eq_proof.proofs.Numerals.{one_decimal, no_decimal-first}
 
 -- ---- the order of a clause
@@ -167,3 +167,21 @@ pub no_list : {X : Type 0} (word : X → List ℕ) (Fits : X → Type 0) → Are
 no_list word Fits w xs ys text rest more fits fits' read not_ended no_word e =
     let next = goes_on_with word Fits w xs ys rest more fits fits' (sym read ∙ e) in
     ends_nowhere word Fits xs ys next.0 rest more next.3 next.1 next.2 not_ended no_word
+
+-- ---- numbers
+
+pub numbers : AreWords decimal IsNumber
+numbers = record {
+  one = λ m n r s fits fits' e. one_number m n r s fits.1 fits'.1 e;
+  not_zero = λ n rest bytes fits e. not_zero_first n rest bytes fits.0 fits.1 e;
+}
+
+-- a number is from 1 where no `0` stands first
+pub from_one : (text : List ℕ) (n : ℕ) (rest : List ℕ) → ((bytes : List ℕ) → text ≢ 48 ∷ bytes) → text ≡ decimal n ++ rest → 1 ≤ n
+from_one text n rest no_zero e =
+    elim (cases_lt 0 n) [
+      | inl pos ↦ pos
+      | inr none ↦
+        let zero : n ≡ 0 = omega arith in
+        absurd (no_zero rest (e ∙ ap (λ (k : ℕ). decimal k ++ rest) zero ∙ ap (λ (ds : List ℕ). ds ++ rest) (decimal_digit 0 (omega arith))))
+    ]

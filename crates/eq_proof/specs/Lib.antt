@@ -4,6 +4,7 @@ pub mod Clause
 pub mod Numeral
 pub mod Text
 pub mod Dimacs
+pub mod Lrat
 pub mod Inference
 pub mod Satisfying
 pub mod Sets

@@ -1,5 +1,5 @@
 -- Texts by lines, and the lists of words that DIMACS and LRAT have in common.
-use Rattle.std.specs.Prelude.{◌≡◌, ℕ, ◌-◌, ◌<◌, ◌≤◌, ◌==◌, if◌then◌else◌, List, [], ◌∷◌, ◌++◌, slice_get, All}
+use Rattle.std.specs.Prelude.{◌≡◌, ℕ, ◌-◌, ◌^◌, ◌<◌, ◌≤◌, ◌==◌, if◌then◌else◌, List, [], ◌∷◌, ◌++◌, slice_get, All}
 use Rattle.std.specs.Fmt.{decimal}
 use Rattle.std.specs.List.{flat_map}
 use Rattle.eq_proof.specs.Literal.{Literal}
@@ -48,3 +48,11 @@ IsUpTo most l = (1 ≤ l.var) × (l.var ≤ most)
 pub record IsClauseUpTo (most : ℕ) (clause : List Literal) : Type 0 where
   pub ordered : IsClause clause
   pub within : All (IsUpTo most) clause
+
+-- numbers from 1 that fit 64 bits
+abbrev pub IsNumber : ℕ → Type 0
+IsNumber n = (1 ≤ n) × (n < 2 ^ 64)
+
+-- numbers, and `0`
+abbrev pub number_words : List ℕ → List ℕ
+number_words numbers = ended_words decimal numbers

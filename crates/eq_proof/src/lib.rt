@@ -13,6 +13,7 @@ mod judgement;
 pub mod laws;
 pub mod lit;
 pub mod log;
+pub mod lrat;
 mod marks;
 mod numeral;
 mod propagation;
@@ -31,6 +32,7 @@ pub use formula::Formula;
 pub use freshness::first_stale;
 pub use lit::Lit;
 pub use log::{Log, StepRef};
+pub use lrat::{print_lrat, read_lrat};
 pub use step::Step;
 pub use text::TextErr;
 

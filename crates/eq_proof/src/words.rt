@@ -1,9 +1,9 @@
 //! Lists of literals and of numbers as words with a blank behind each and `0` at the end.
-ghost use Rattle.std.specs.Prelude.{◌≡◌, ◌≢◌, ◌≤◌, ◌<◌, ◌^◌, ◌↔◌, ℕ, List, [], ◌∷◌, ◌++◌, IsTrue, IfOk, IfSome, IfNone, OnOk};
+ghost use Rattle.std.specs.Prelude.{◌≡◌, ◌≢◌, ◌≤◌, ◌<◌, ◌^◌, ◌↔◌, ℕ, List, [], ◌∷◌, ◌++◌, IsTrue, All, IfOk, IfSome, IfNone, OnOk};
 ghost use Rattle.std.specs.Fmt.{decimal};
 ghost use Rattle.eq_proof.specs.Literal.{Literal};
 ghost use Rattle.eq_proof.specs.Clause.{IsBefore, IsClause};
-ghost use Rattle.eq_proof.specs.Text.{literal_word, clause_words, IsUpTo, IsClauseUpTo};
+ghost use Rattle.eq_proof.specs.Text.{literal_word, clause_words, number_words, IsUpTo, IsClauseUpTo, IsNumber};
 
 use crate::lit::Lit;
 use crate::numeral::{number_before, push_number};
@@ -111,4 +111,39 @@ fn push_literal(out: &mut Vec<u8>, l: Lit) -> Result<(), Memory>
         out.push(b'-')?;
     }
     push_number(out, u64::from(l.var()))
+}
+
+/// The numbers from 1 at the front of a text, without the byte behind their `0`: they are kept in `numbers`, and what follows is answered.
+pub fn read_numbers<'a>(
+    text: &'a [u8],
+    numbers: &mut Vec<u64>,
+) -> Result<Option<&'a [u8]>, Memory>
+    ensures numbers { IfOk result (λ found. IfSome found (λ rest. text.now ≡ number_words numbers.new.items ++ rest.now)) }
+    ensures fits { IfOk result (λ found. IfSome found (λ _. All IsNumber numbers.new.items)) }
+    ensures none { IfOk result (λ found. IfNone found ((ns rest : List ℕ) → All IsNumber ns → text.now ≢ number_words ns ++ rest)) }
+{
+    numbers.clear();
+    let mut rest = text;
+    loop {
+        if let Some(after) = behind(rest, b'0') {
+            return Ok(Some(after));
+        }
+        let Some((number, after)) = number_before(rest, b' ') else {
+            return Ok(None);
+        };
+        numbers.push(number)?;
+        rest = after;
+    }
+}
+
+/// Writes the words of numbers at the end.
+pub fn push_numbers(out: &mut Vec<u8>, numbers: &[u64]) -> Result<(), Memory>
+    ensures { OnOk result (out.new.items ≡ out.old.items ++ number_words numbers.now) }
+{
+    for number in numbers {
+        push_number(out, *number)?;
+        out.push(b' ')?;
+    }
+    out.push(b'0')?;
+    Ok(())
 }
