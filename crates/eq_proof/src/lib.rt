@@ -38,3 +38,5 @@ pub use text::TextErr;
 
 #[cfg(test)]
 mod tests;
+#[cfg(test)]
+mod text_tests;
