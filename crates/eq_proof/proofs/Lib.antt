@@ -1,6 +1,11 @@
 pub mod Division
 pub mod Sorting
 pub mod Lists
+pub mod Numerals
+pub mod WordLists
+pub mod Lines
+pub mod FormulaTexts
+pub mod LogTexts
 pub mod Soundness
 pub mod Trails
 pub mod Judging

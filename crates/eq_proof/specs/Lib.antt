@@ -1,6 +1,10 @@
 pub mod Literal
 pub mod Rows
 pub mod Clause
+pub mod Numeral
+pub mod Text
+pub mod Dimacs
+pub mod Lrat
 pub mod Inference
 pub mod Satisfying
 pub mod Sets

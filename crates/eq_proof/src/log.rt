@@ -79,9 +79,20 @@ impl Log {
         ensures err { OnErr result (self.new ≡ self.old) }
     {
         let Step { clause, ants } = step;
+        self.push_parts(clause.lits(), ants.as_slice())
+    }
+
+    /// Copies the parts of a step to the end.
+    pub fn push_parts(&mut self, clause: &[Lit], ants: &[u64]) -> Result<(), Memory>
+        requires few { length self.old + 1 < 2 ^ 32 }
+        requires ordered { IsClause clause.now }
+        requires from_one { All (λ n. 1 ≤ n) ants.now }
+        ensures ok { OnOk result (self.new ≡ self.old ++ (record { clause = clause.now; ants = ants.now }) ∷ []) }
+        ensures err { OnErr result (self.new ≡ self.old) }
+    {
         let before = self.ants.len();
-        self.ants.push(ants.as_slice())?;
-        match self.clauses.push(clause) {
+        self.ants.push(ants)?;
+        match self.clauses.push_lits(clause) {
             Ok(()) => Ok(()),
             Err(Memory) => {
                 self.ants.truncate(before);

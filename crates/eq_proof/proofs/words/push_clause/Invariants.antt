@@ -1,0 +1,6 @@
+use Rattle.std.proofs.Common.{◌≡◌, ◌++◌, take}
+use Rattle.eq_proof.specs.Text.{words, literal_word}
+use Rattle.eq_proof.proofs.words.push_clause.Given as goal
+
+abbrev pub invariant-loop-l : goal.invariant-loop-l
+invariant-loop-l l = l.out.items ≡ l.fn.out.items ++ words literal_word (take l.l-index l.clause)
