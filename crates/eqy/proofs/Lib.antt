@@ -5,3 +5,4 @@ pub mod Listed
 pub mod Fronts
 pub mod Stopped
 pub mod Outcomes
+pub mod Equal

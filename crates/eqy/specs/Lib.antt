@@ -8,3 +8,4 @@ pub mod Command
 pub mod Stops
 pub mod Tasks
 pub mod Verdicts
+pub mod Designs

@@ -7,6 +7,7 @@ ghost use Rattle.eq_first.specs.Well.{IsWellFormed};
 ghost use Rattle.eq_first.specs.declared.job.Job.{Job as JobValue};
 ghost use Rattle.eq_first.specs.declared.module.Module.{Module as ModuleValue};
 ghost use Rattle.eqy.specs.Command.{IsRefused, IsTask};
+ghost use Rattle.eqy.specs.Designs.{DesignsAre};
 ghost use Rattle.eqy.specs.Lines.{refusal_line, report};
 ghost use Rattle.eqy.specs.Output.{Adds, AddsFront};
 ghost use Rattle.eqy.specs.Tasks.{IsReady};
@@ -23,6 +24,8 @@ use eq_base::{Bytes, Memory};
 use eq_first::Module;
 use eq_first::laws::{one_job, one_module};
 use eq_io::{Gate, Sink, SinkErr, Store};
+use eq_model::laws::{combinational, one_cycle, ranked};
+use eq_net::laws::words_make_a_system;
 use std::alloc::Global;
 use std::thread::Threads;
 
@@ -137,6 +140,10 @@ pub fn eqy<R: Threads + Sync, S: Store, O: Sink, G: Gate + Sync>(
         (job : JobValue) × (gold : ModuleValue) × (gate : ModuleValue) × IsTask words.now files job gold gate × IsVerdict verdict gold gate ×
         Adds (O.written out.old) (O.written out.new) (report verdict (output_name gold) job.strategy) }
 
+    // So 0 says that the two designs are equivalent, in all cycles of all inputs, and 2 that they are not.
+    ensures designs { (verdict : VerdictValue) → result ≡ status_of verdict → (files : Files) → S.map store.old ≡ Some files →
+        (job : JobValue) × (gold : ModuleValue) × (gate : ModuleValue) × IsTask words.now files job gold gate × DesignsAre verdict gold gate }
+
     // 16 comes only of the first refusal that holds, with its line.
     ensures refused { result ≡ 16 → (r : RefusalValue) × Adds (O.written out.old) (O.written out.new) (refusal_line r) ×
         ((files : Files) → S.map store.old ≡ Some files → IsRefused words.now files r) }
@@ -157,6 +164,10 @@ pub fn eqy<R: Threads + Sync, S: Store, O: Sink, G: Gate + Sync>(
     let _ = gate;
     one_job();
     one_module();
+    ranked();
+    one_cycle();
+    combinational();
+    words_make_a_system();
     match prepare(alloc, words, store) {
         Ok(task) => compare(alloc, out, &task),
         Err(Stop::Refused(refusal)) => refuse(alloc, out, &refusal),

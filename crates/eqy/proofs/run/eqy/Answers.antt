@@ -5,6 +5,7 @@ use Rattle.eqy.specs.declared.refusal.Refusal.{Refusal}
 use Rattle.eqy.specs.Lines.{refusal_line, report}
 use Rattle.eqy.specs.Output.{AddsFront}
 use Rattle.eqy.specs.Verdicts.{IsVerdict, output_name}
+use Rattle.eqy.proofs.Equal.{designs_are}
 use Rattle.eqy.proofs.Outcomes.{no_task, one_refusal, one_task}
 use Rattle.eqy.proofs.run.eqy.Goals as goal
 
@@ -49,3 +50,15 @@ returns-in-Err-Refused-clause-refusal g c =
     let same = one_refusal c.one_job.ensures c.one_module.ensures c.args.words.now files c.in-Err-Refused.refusal r (refused files told) is in
     let P : Refusal → Type 0 = λ x. AddsFront old new (refusal_line x) in
     (c.refuse.ensures.status, subst P same c.refuse.ensures.front)
+
+pub returns-in-Ok-clause-designs : goal.returns-in-Ok-clause-designs
+returns-in-Ok-clause-designs g c =
+    let task = c.in-Ok.task in
+    λ verdict ends files told. (
+      task.job,
+      task.gold,
+      task.gate,
+      c.in-Ok.ensures.ok files told,
+      designs_are c.ranked.ensures c.words_make_a_system.ensures c.combinational.ensures c.one_cycle.ensures verdict task.gold task.gate
+          c.in-Ok.ensures.ready.gold c.in-Ok.ensures.ready.gate c.in-Ok.ensures.ready.ports (c.compare.ensures.told verdict ends).0,
+    )
