@@ -20,8 +20,8 @@ use Rattle.eq_proof.proofs.Lines.{HasNoFeed, HasNoFeed-append, HasNoFeed-decimal
 pub step_line-append : (n : ℕ) (step : Inference) (rest : List ℕ) → step_line n step ++ rest ≡ decimal n ++ 32 ∷ (clause_words step.clause ++ 32 ∷ (number_words step.ants ++ 10 ∷ rest))
 step_line-append n step rest =
     append_assoc (decimal n) (32 ∷ (clause_words step.clause ++ 32 ∷ (number_words step.ants ++ 10 ∷ []))) rest
-      ∙ ap (λ (t : List ℕ). decimal n ++ 32 ∷ t)
-        (append_assoc (clause_words step.clause) (32 ∷ (number_words step.ants ++ 10 ∷ [])) rest ∙ ap (λ (t : List ℕ). clause_words step.clause ++ 32 ∷ t) (append_assoc (number_words step.ants) (10 ∷ []) rest))
+    ∙ ap (λ (t : List ℕ). decimal n ++ 32 ∷ t)
+    (append_assoc (clause_words step.clause) (32 ∷ (number_words step.ants ++ 10 ∷ [])) rest ∙ ap (λ (t : List ℕ). clause_words step.clause ++ 32 ∷ t) (append_assoc (number_words step.ants) (10 ∷ []) rest))
 
 -- a line has a byte at least
 pub step_line-long : (n : ℕ) (step : Inference) → 1 ≤ length (step_line n step)
@@ -77,8 +77,8 @@ lines_of_log : (n : ℕ) (log : List Inference) (rest : List ℕ) → n + length
 lines_of_log n [] rest small fits = refl
 lines_of_log n (step ∷ log) rest small fits =
     ap lines_of (append_assoc (step_line n step) (lrat_text (suc n) log) rest)
-      ∙ lines_cons (step_line n step) (lrat_text (suc n) log ++ rest) (step_line-is n step (omega arith) (All-head IsStep step log fits))
-      ∙ ap (λ (ls : List (List ℕ)). step_line n step ∷ ls) (lines_of_log (suc n) log rest (omega arith) (All-tail IsStep step log fits))
+    ∙ lines_cons (step_line n step) (lrat_text (suc n) log ++ rest) (step_line-is n step (omega arith) (All-head IsStep step log fits))
+    ∙ ap (λ (ls : List (List ℕ)). step_line n step ∷ ls) (lines_of_log (suc n) log rest (omega arith) (All-tail IsStep step log fits))
 
 abbrev no_step : Inference
 no_step = record { clause = []; ants = [] }
@@ -93,7 +93,7 @@ lrat_text-append : (n : ℕ) (log more : List Inference) → lrat_text n (log ++
 lrat_text-append n [] more = ap (λ (k : ℕ). lrat_text k more) (omega arith)
 lrat_text-append n (step ∷ log) more =
     ap (λ (t : List ℕ). step_line n step ++ t) (lrat_text-append (suc n) log more ∙ ap (λ (k : ℕ). lrat_text (suc n) log ++ lrat_text k more) (omega arith))
-      ∙ sym (append_assoc (step_line n step) (lrat_text (suc n) log) (lrat_text (n + suc (length log)) more))
+    ∙ sym (append_assoc (step_line n step) (lrat_text (suc n) log) (lrat_text (n + suc (length log)) more))
 
 -- a step more
 lrat_text-push : (n : ℕ) (log : List Inference) (step : Inference) → lrat_text n (log ++ step ∷ []) ≡ lrat_text n log ++ step_line (n + length log) step
@@ -131,18 +131,18 @@ no_step_is_bad first log text rest line small few fits read line-is nonempty non
     record {
       begins = (good, (log, record { last_fits = small; few = few; steps = fits }, refl), agree_behind good text front [] (lines_of rest) (line - 1) good_lines lines (omega arith));
       breaks = λ other is agree.
-        let others = is.0 in
-        let theirs : lines_of other ≡ step_lines first others ++ [] = ap lines_of (is.2 ∙ sym (append-nil (lrat_text first others))) ∙ lines_of_log first others [] is.1.last_fits is.1.steps in
-        let ours : slice_get (lines_of text) (length log) ≡ slice_get (lines_of rest) 0 = ap (slice_get (lines_of text)) (sym front_length) ∙ line_behind text front (lines_of rest) lines in
-        let at : slice_get (step_lines first others) (length log) ≡ slice_get (lines_of rest) 0 =
+          let others = is.0 in
+          let theirs : lines_of other ≡ step_lines first others ++ [] = ap lines_of (is.2 ∙ sym (append-nil (lrat_text first others))) ∙ lines_of_log first others [] is.1.last_fits is.1.steps in
+          let ours : slice_get (lines_of text) (length log) ≡ slice_get (lines_of rest) 0 = ap (slice_get (lines_of text)) (sym front_length) ∙ line_behind text front (lines_of rest) lines in
+          let at : slice_get (step_lines first others) (length log) ≡ slice_get (lines_of rest) 0 =
           ap (λ (ls : List (List ℕ)). slice_get ls (length log)) (sym (theirs ∙ append-nil (step_lines first others))) ∙ agree (length log) (omega arith) ∙ ours in
-        elim (cases_lt (length log) (length others)) [
-          | inl lt ↦
-            let step = get_or others (length log) no_step in
-            let begins = first_line rest (step_line (first + length log) step) (sym at ∙ step_lines-at first others (length log) lt) in
-            none step begins.0 (All-get_or IsStep others (length log) no_step lt is.1.steps) begins.1
-          | inr past ↦ nonempty (no_first_line rest (sym at ∙ slice_get_past (step_lines first others) (length log) (omega (arith, length-step_lines first others))))
-        ];
+          elim (cases_lt (length log) (length others)) [
+            | inl lt ↦
+                let step = get_or others (length log) no_step in
+                let begins = first_line rest (step_line (first + length log) step) (sym at ∙ step_lines-at first others (length log) lt) in
+                none step begins.0 (All-get_or IsStep others (length log) no_step lt is.1.steps) begins.1
+            | inr past ↦ nonempty (no_first_line rest (sym at ∙ slice_get_past (step_lines first others) (length log) (omega (arith, length-step_lines first others))))
+          ];
     }
 
 -- a step more

@@ -182,6 +182,6 @@ from_one text n rest no_zero e =
     elim (cases_lt 0 n) [
       | inl pos ↦ pos
       | inr none ↦
-        let zero : n ≡ 0 = omega arith in
-        absurd (no_zero rest (e ∙ ap (λ (k : ℕ). decimal k ++ rest) zero ∙ ap (λ (ds : List ℕ). ds ++ rest) (decimal_digit 0 (omega arith))))
+          let zero : n ≡ 0 = omega arith in
+          absurd (no_zero rest (e ∙ ap (λ (k : ℕ). decimal k ++ rest) zero ∙ ap (λ (ds : List ℕ). ds ++ rest) (decimal_digit 0 (omega arith))))
     ]

@@ -71,7 +71,11 @@ const LOGS: [(u64, &[u8], u32); 5] = [
     (3, b"", 0),
     (9, b"9 1 -1 -2 0 0\n10 0 18446744073709551615 7 7 0\n", 2),
     (1, b"1 -2147483647 0 1 0\n2 0 0\n3 5 0 20 100 0\n", 3),
-    (9223372036854775808, b"9223372036854775808 0 1 0\n9223372036854775809 0 0\n", 2),
+    (
+        9223372036854775808,
+        b"9223372036854775808 0 1 0\n9223372036854775809 0 0\n",
+        2,
+    ),
 ];
 
 // LRAT texts with the first step's number 3, and the first line that is bad.
@@ -119,7 +123,9 @@ fn formulas(rt: HostRuntime) -> Result<(), Fail> {
     let alloc = rt.alloc();
     for (text, clauses) in &FORMULAS {
         assert!(rt; text.len() < 1000);
-        let f = read_dimacs(alloc, text).ok().ok_or("the text is a formula's")?;
+        let f = read_dimacs(alloc, text)
+            .ok()
+            .ok_or("the text is a formula's")?;
         assert_eq!(rt; f.clauses.len(), *clauses);
         assert_eq!(rt; print_dimacs(alloc, &f)?.as_slice(), *text);
     }
@@ -131,7 +137,10 @@ fn bad_formulas(rt: HostRuntime) {
     let alloc = rt.alloc();
     for (text, line) in &BAD_FORMULAS {
         assert!(rt; text.len() < 1000);
-        assert_eq!(rt; read_dimacs(alloc, text).err(), Some(TextErr::At { line: *line }));
+        assert_eq!(rt;
+            read_dimacs(alloc, text).err(),
+            Some(TextErr::At { line: *line })
+        );
     }
 }
 
@@ -142,7 +151,9 @@ fn logs(rt: HostRuntime) -> Result<(), Fail> {
         assert!(rt; text.len() < 1000);
         assert!(rt; 1 <= *first);
         assert!(rt; *first <= 9223372036854775808);
-        let log = read_lrat(alloc, *first, text).ok().ok_or("the text is a log's")?;
+        let log = read_lrat(alloc, *first, text)
+            .ok()
+            .ok_or("the text is a log's")?;
         assert_eq!(rt; log.len(), *steps);
         assert_eq!(rt; print_lrat(alloc, *first, &log)?.as_slice(), *text);
     }
@@ -154,18 +165,25 @@ fn bad_logs(rt: HostRuntime) {
     let alloc = rt.alloc();
     for (text, line) in &BAD_LOGS {
         assert!(rt; text.len() < 1000);
-        assert_eq!(rt; read_lrat(alloc, 3, text).err(), Some(TextErr::At { line: *line }));
+        assert_eq!(rt;
+            read_lrat(alloc, 3, text).err(),
+            Some(TextErr::At { line: *line })
+        );
     }
 }
 
 #[test]
 fn two_clauses(rt: HostRuntime) -> Result<(), Fail> {
     let alloc = rt.alloc();
-    let f = read_dimacs(alloc, b"p cnf 1 2\n1 0\n-1 0\n").ok().ok_or("the text is a formula's")?;
+    let f = read_dimacs(alloc, b"p cnf 1 2\n1 0\n-1 0\n")
+        .ok()
+        .ok_or("the text is a formula's")?;
     assert_eq!(rt; f.vars, 1);
     assert_eq!(rt; signs(&rt, &f.clauses, 0), (1, true));
     assert_eq!(rt; signs(&rt, &f.clauses, 1), (1, false));
-    let log = read_lrat(alloc, 3, b"3 0 1 2 0\n").ok().ok_or("the text is a log's")?;
+    let log = read_lrat(alloc, 3, b"3 0 1 2 0\n")
+        .ok()
+        .ok_or("the text is a log's")?;
     assert_eq!(rt; steps(&rt, &log), (0, 2));
     Ok(())
 }

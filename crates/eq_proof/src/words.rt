@@ -114,10 +114,7 @@ fn push_literal(out: &mut Vec<u8>, l: Lit) -> Result<(), Memory>
 }
 
 /// The numbers from 1 at the front of a text, without the byte behind their `0`: they are kept in `numbers`, and what follows is answered.
-pub fn read_numbers<'a>(
-    text: &'a [u8],
-    numbers: &mut Vec<u64>,
-) -> Result<Option<&'a [u8]>, Memory>
+pub fn read_numbers<'a>(text: &'a [u8], numbers: &mut Vec<u64>) -> Result<Option<&'a [u8]>, Memory>
     ensures numbers { IfOk result (λ found. IfSome found (λ rest. text.now ≡ number_words numbers.new.items ++ rest.now)) }
     ensures fits { IfOk result (λ found. IfSome found (λ _. All IsNumber numbers.new.items)) }
     ensures none { IfOk result (λ found. IfNone found ((ns rest : List ℕ) → All IsNumber ns → text.now ≢ number_words ns ++ rest)) }

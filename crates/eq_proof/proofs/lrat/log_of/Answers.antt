@@ -31,7 +31,7 @@ loop-rest-preserved c =
     let line = rw c.in-Some.is at c.in_ok-after.ensures.step in
     let own = rw c.in-Some.is at c.in_ok-after.ensures.fits in
     let pushed : c.push_parts.new.self ≡ log ++ step ∷ [] =
-      c.in_ok-push_parts.ensures.ok ∙ ap₂ (λ (clause : List Literal) (ants : List ℕ). let made : Inference = record { clause = clause; ants = ants } in log ++ made ∷ []) c.as_slice.ensures.value c.as_slice-in-loop-rest.ensures.value in
+    c.in_ok-push_parts.ensures.ok ∙ ap₂ (λ (clause : List Literal) (ants : List ℕ). let made : Inference = record { clause = clause; ants = ants } in log ++ made ∷ []) c.as_slice.ensures.value c.as_slice-in-loop-rest.ensures.value in
     let P : List Inference → Type 0 = All IsStep in
     record {
       read = read_step c.args.first log c.push_parts.new.self step (c.args.first + c.from.result) c.args.text.now c.loop-rest.rest.now after inv.read line (omega arith) pushed;

@@ -7,7 +7,7 @@ abbrev pub invariant-loop-rest : goal.invariant-loop-rest
 invariant-loop-rest l = record {
   read : l.text ≡ lrat_text l.first l.log ++ l.rest;
   short : length l.log + length l.rest ≤ length l.text;
-  steps : All IsStep l.log
+  steps : All IsStep l.log;
 }
 
 abbrev pub decreases-loop-rest : goal.decreases-loop-rest

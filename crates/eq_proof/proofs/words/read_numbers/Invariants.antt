@@ -7,7 +7,7 @@ use Rattle.eq_proof.proofs.words.read_numbers.Given as goal
 abbrev pub invariant-loop-after : goal.invariant-loop-after
 invariant-loop-after l = record {
   read : l.text ≡ words decimal l.numbers.items ++ l.rest;
-  fits : All IsNumber l.numbers.items
+  fits : All IsNumber l.numbers.items;
 }
 
 abbrev pub decreases-loop-after : goal.decreases-loop-after
