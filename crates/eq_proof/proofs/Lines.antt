@@ -3,7 +3,7 @@ use Rattle.std.proofs.Common.{◌≡◌, ℕ, ◌+◌, ◌%◌, ◌^◌, ◌<◌
 use Rattle.std.specs.Prelude.{All, ◌==◌}
 use Rattle.std.specs.Fmt.{decimal}
 use Rattle.std.specs.List.{flat_map, AllByRecursion}
-use Rattle.std.proofs.lemmas.Bool.{cases_Bool}
+use Rattle.std.proofs.lemmas.Bool.{cases_Bool, cases_lt}
 use Rattle.std.proofs.lemmas.Bool.Decides.{nat_tests}
 use Rattle.std.proofs.lemmas.Fmt.{decimal_by_steps}
 use Rattle.std.proofs.lemmas.List.{append_assoc, append-nil, take_more}
@@ -11,7 +11,7 @@ use Rattle.std.proofs.lemmas.Grind.{flat_map-append}
 use Rattle.std.proofs.lemmas.Option.{slice_get_within, get_or_from_slice_get}
 use Rattle.std.proofs.lemmas.List.Elements.{All-head, All-tail}
 use Rattle.eq_proof.specs.Literal.{Literal}
-use Rattle.eq_proof.specs.Text.{with_byte, lines_of, AgreeOn, words, ended_words, literal_word, IsUpTo}
+use Rattle.eq_proof.specs.Text.{with_byte, lines_of, AgreeOn, words, ended_words, literal_word, IsUpTo, IsFirstBadLine}
 
 -- ---- bytes without a line feed
 
@@ -134,3 +134,17 @@ flat_map_at {X} f xs place x at =
     let within = slice_get_within xs place x at in
     let more : take (place + 1) xs ≡ take place xs ++ x ∷ [] = take_more xs place x within ∙ ap (λ (y : X). take place xs ++ y ∷ []) (get_or_from_slice_get xs place x x at) in
     ap (flat_map f) more ∙ flat_map-append f (take place xs) (x ∷ []) ∙ ap (λ (t : List ℕ). flat_map f (take place xs) ++ t) (append-nil (f x))
+
+-- ---- the first bad line
+
+no_earlier : (IsText : List ℕ → Type 0) (text : List ℕ) (m n : ℕ) → IsFirstBadLine IsText text m → IsFirstBadLine IsText text n → m < n → ⊥
+no_earlier IsText text m n p q lt =
+    let good = q.begins in
+    p.breaks good.0 good.1 (λ k below. good.2 k (omega arith))
+
+pub one_bad_line : (IsText : List ℕ → Type 0) (text : List ℕ) (m n : ℕ) → IsFirstBadLine IsText text m → IsFirstBadLine IsText text n → m ≡ n
+one_bad_line IsText text m n p q =
+    elim (cases_lt m n) [
+      | inl lt ↦ absurd (no_earlier IsText text m n p q lt)
+      | inr le ↦ elim (cases_lt n m) [ inl lt ↦ absurd (no_earlier IsText text n m q p lt) | inr ge ↦ omega arith ]
+    ]

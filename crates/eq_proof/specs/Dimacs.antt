@@ -3,7 +3,7 @@ use Rattle.std.specs.Prelude.{◌≡◌, ◌≢◌, ℕ, ◌+◌, ◌-◌, ◌^�
 use Rattle.std.specs.Fmt.{decimal}
 use Rattle.std.specs.List.{flat_map}
 use Rattle.eq_proof.specs.Literal.{Literal}
-use Rattle.eq_proof.specs.Text.{clause_words, IsClauseUpTo}
+use Rattle.eq_proof.specs.Text.{clause_words, IsClauseUpTo, IsFirstBadLine}
 
 -- `p cnf VARS COUNT`
 abbrev pub header_line : ℕ → ℕ → List ℕ
@@ -30,6 +30,10 @@ pub record IsFormula (vars : ℕ) (clauses : List (List Literal)) : Type 0 where
 -- the texts of formulas
 abbrev pub IsDimacs : List ℕ → Type 0
 IsDimacs text = (vars : ℕ) × (clauses : List (List Literal)) × IsFormula vars clauses × (text ≡ dimacs_text vars clauses)
+
+-- a text has one first bad line at most
+abbrev pub OneBadLine : Type 0
+OneBadLine = (text : List ℕ) (m n : ℕ) → IsFirstBadLine IsDimacs text m → IsFirstBadLine IsDimacs text n → m ≡ n
 
 -- behind so many clauses stands what is in no text of this count: before the last no line of a clause, behind it any byte
 pub record IsOff (most count done : ℕ) (rest : List ℕ) : Type 0 where

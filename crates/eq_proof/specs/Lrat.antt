@@ -2,7 +2,7 @@
 use Rattle.std.specs.Prelude.{◌≡◌, ℕ, ◌+◌, ◌-◌, ◌^◌, ◌<◌, ◌≤◌, suc, List, [], ◌∷◌, ◌++◌, length, All}
 use Rattle.std.specs.Fmt.{decimal}
 use Rattle.eq_proof.specs.Inference.{Inference}
-use Rattle.eq_proof.specs.Text.{clause_words, number_words, IsClauseUpTo, IsNumber}
+use Rattle.eq_proof.specs.Text.{clause_words, number_words, IsClauseUpTo, IsNumber, IsFirstBadLine}
 
 -- a step's number, its clause, its antecedents
 abbrev pub step_line : ℕ → Inference → List ℕ
@@ -27,3 +27,7 @@ pub record IsNumbered (first : ℕ) (log : List Inference) : Type 0 where
 -- the texts of logs whose first step has this number
 abbrev pub IsLrat : ℕ → List ℕ → Type 0
 IsLrat first text = (log : List Inference) × IsNumbered first log × (text ≡ lrat_text first log)
+
+-- a text has one first bad line at most
+abbrev pub OneBadLine : Type 0
+OneBadLine = (first : ℕ) (text : List ℕ) (m n : ℕ) → IsFirstBadLine (IsLrat first) text m → IsFirstBadLine (IsLrat first) text n → m ≡ n

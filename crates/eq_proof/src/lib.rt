@@ -20,6 +20,7 @@ mod propagation;
 pub mod rows;
 pub mod step;
 pub mod text;
+pub mod text_laws;
 mod trail;
 mod variables;
 mod words;
