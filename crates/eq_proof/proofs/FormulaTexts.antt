@@ -1,17 +1,18 @@
 -- DIMACS texts: each formula has one, no other has the same, and where reading stops is the first bad line.
-use Rattle.std.proofs.Common.{◌≡◌, ◌≢◌, ℕ, ◌+◌, ◌-◌, ◌^◌, ◌<◌, ◌≤◌, suc, List, [], ◌∷◌, ◌++◌, length, map, get_or, replicate, Some, slice_get, arith, refl, sym, ap, ◌∙◌, subst, inl, inr}
+use Rattle.std.proofs.Common.{◌≡◌, ◌≢◌, ℕ, ◌+◌, ◌-◌, ◌^◌, ◌<◌, ◌≤◌, suc, List, [], ◌∷◌, ◌++◌, length, map, take, get_or, replicate, Some, slice_get, arith, refl, sym, ap, ◌∙◌, subst, inl, inr}
 use Rattle.std.specs.Prelude.{All, codes, Result, Ok, Err, IfOk, IsErrOf, MatchResult}
 use Rattle.std.specs.Fmt.{decimal}
 use Rattle.std.specs.List.{flat_map}
 use Rattle.std.proofs.lemmas.Bool.{cases_lt}
 use Rattle.std.proofs.lemmas.List.{append_assoc, append-nil, append_cancel_left, length-append, length-replicate, length-map, get_or-map}
-use Rattle.std.proofs.lemmas.List.Elements.{All-head, All-tail, All-nil, All-append, All-replicate, All-get_or, All-weaker}
-use Rattle.std.proofs.lemmas.Option.{slice_get-get_or, slice_get_past, same_Some}
+use Rattle.std.proofs.lemmas.List.Elements.{All-head, All-tail, All-nil, All-append, All-replicate, All-get_or, All-weaker, All-more}
+use Rattle.std.proofs.lemmas.Option.{slice_get-get_or, slice_get_past, same_Some, slice_get_within, get_or_from_slice_get}
 use Rattle.std.proofs.lemmas.Grind.{flat_map-append}
 use Rattle.eq_proof.specs.declared.formula.Formula.{Formula}
 use Rattle.eq_proof.specs.declared.text.TextErr.{TextErr}
 use Rattle.eq_proof.specs.declared.text.TextErr.TheVariants.{At, Memory}
 use Rattle.eq_proof.specs.Literal.{Literal}
+use Rattle.eq_proof.specs.Clause.{IsClause}
 use Rattle.eq_proof.specs.Text.{lines_of, AgreeOn, IsFirstBadLine, literal_word, clause_words, IsUpTo, IsClauseUpTo}
 use Rattle.eq_proof.specs.Dimacs.{header_line, clause_line, dimacs_text, highest_of, IsFormula, IsDimacs, IsOff, IsStop}
 use Rattle.eq_proof.proofs.Numerals.{one_decimal}
@@ -225,3 +226,14 @@ pub read_again : (text : List ℕ) (result : Result Formula TextErr) → IfOk re
 read_again text (Ok f) read own bad vars clauses fits e = one_formula f.vars vars f.clauses clauses own fits (sym read ∙ e)
 read_again text (Err (At line)) read own bad vars clauses fits e = absurd ((bad line refl).breaks text (vars, clauses, fits, e) (λ k lt. refl))
 read_again text (Err Memory) read own bad vars clauses fits e = refl
+
+-- a clause more that fits its type and a formula's variables
+pub fits_more : (vars : ℕ) (clauses : List (List Literal)) (place : ℕ) (clause : List Literal) → slice_get clauses place ≡ Some clause → IsClause clause → All (IsUpTo (2 ^ 31 - 1)) clause → All (λ clause. All (λ l. l.var ≤ vars) clause) clauses
+    → All (IsClauseUpTo (highest_of vars)) (take place clauses) → All (IsClauseUpTo (highest_of vars)) (take (place + 1) clauses)
+fits_more vars clauses place clause at ordered range within before =
+    let inside = slice_get_within clauses place clause at in
+    let same : get_or clauses place clause ≡ clause = get_or_from_slice_get clauses place clause clause at in
+    let P : List Literal → Type 0 = λ clause. All (λ l. l.var ≤ vars) clause in
+    let below : P clause = subst P same (within place clause inside) in
+    let fit : IsClauseUpTo (highest_of vars) clause = record { ordered = ordered; within = λ k d lt. ((range k d lt).0, omega (arith, (range k d lt).1, below k d lt)) } in
+    All-more (IsClauseUpTo (highest_of vars)) clauses place clause inside before (subst (IsClauseUpTo (highest_of vars)) (sym same) fit)

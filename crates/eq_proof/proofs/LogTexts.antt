@@ -1,13 +1,15 @@
 -- LRAT texts: each log has one, no other has the same, and where reading stops is the first bad line.
-use Rattle.std.proofs.Common.{◌≡◌, ◌≢◌, ℕ, ◌+◌, ◌-◌, ◌^◌, ◌<◌, ◌≤◌, zero, suc, List, [], ◌∷◌, ◌++◌, length, get_or, take, Some, slice_get, Ok, Err, Result, arith, refl, sym, ap, ap₂, ◌∙◌, inl, inr}
+use Rattle.std.proofs.Common.{◌≡◌, ◌≢◌, ℕ, ◌+◌, ◌-◌, ◌^◌, ◌<◌, ◌≤◌, zero, suc, List, [], ◌∷◌, ◌++◌, length, get_or, take, Some, slice_get, Ok, Err, Result, arith, refl, sym, ap, ap₂, ◌∙◌, inl, inr, subst}
 use Rattle.std.specs.Prelude.{All, IfOk, IsErrOf, MatchResult}
 use Rattle.std.specs.Fmt.{decimal}
 use Rattle.std.proofs.lemmas.Bool.{cases_lt}
 use Rattle.std.proofs.lemmas.List.{append_assoc, append-nil, length-append, length-take-le, take_more}
-use Rattle.std.proofs.lemmas.List.Elements.{All-head, All-tail, All-get_or}
+use Rattle.std.proofs.lemmas.List.Elements.{All-head, All-tail, All-get_or, All-more}
 use Rattle.std.proofs.lemmas.Option.{slice_get_past, slice_get_within, get_or_from_slice_get}
 use Rattle.eq_proof.specs.declared.text.TextErr.{TextErr}
 use Rattle.eq_proof.specs.declared.text.TextErr.TheVariants.{At, Memory}
+use Rattle.eq_proof.specs.Literal.{Literal}
+use Rattle.eq_proof.specs.Clause.{IsClause}
 use Rattle.eq_proof.specs.Inference.{Inference}
 use Rattle.eq_proof.specs.Text.{lines_of, IsFirstBadLine, literal_word, clause_words, number_words, IsUpTo, IsClauseUpTo, IsNumber}
 use Rattle.eq_proof.specs.Lrat.{step_line, lrat_text, IsStep, IsNumbered, IsLrat}
@@ -159,3 +161,13 @@ pub read_again : (first : ℕ) (text : List ℕ) (result : Result (List Inferenc
 read_again first text (Ok found) read own bad log fits e = one_log first found log own.last_fits fits.last_fits own.steps fits.steps (sym read ∙ e)
 read_again first text (Err (At line)) read own bad log fits e = absurd ((bad line refl).breaks text (log, fits, e) (λ k lt. refl))
 read_again first text (Err Memory) read own bad log fits e = refl
+
+-- a step more that fits its type
+pub steps_more : (log : List Inference) (place : ℕ) (clause : List Literal) (ants : List ℕ) → slice_get log place ≡ Some (record { clause = clause; ants = ants }) → IsClause clause → All (IsUpTo (2 ^ 31 - 1)) clause → All (λ n. 1 ≤ n) ants → All (λ n. n < 2 ^ 64) ants
+    → All IsStep (take place log) → All IsStep (take (place + 1) log)
+steps_more log place clause ants at ordered range from_one small before =
+    let step : Inference = record { clause = clause; ants = ants } in
+    let inside = slice_get_within log place step at in
+    let same : get_or log place step ≡ step = get_or_from_slice_get log place step step at in
+    let fit : IsStep step = record { clause = record { ordered = ordered; within = range }; ants = λ k d lt. (from_one k d lt, small k d lt) } in
+    All-more IsStep log place step inside before (subst IsStep (sym same) fit)

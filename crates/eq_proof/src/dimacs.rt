@@ -1,8 +1,8 @@
 //! Formulas as DIMACS texts.
-ghost use Rattle.std.specs.Prelude.{◌≡◌, ◌≢◌, ◌+◌, ◌<◌, ◌≤◌, ◌^◌, ℕ, List, ◌++◌, length, take, min, All, IfOk, IfSome, IfNone, IsErrOf, MatchResult, OnOk};
+ghost use Rattle.std.specs.Prelude.{◌≡◌, ◌≢◌, ◌+◌, ◌-◌, ◌<◌, ◌≤◌, ◌^◌, ℕ, List, ◌++◌, length, take, min, All, IfOk, IfSome, IfNone, IsErrOf, MatchResult, OnOk};
 ghost use Rattle.std.specs.List.{flat_map};
 ghost use Rattle.eq_proof.specs.Literal.{Literal};
-ghost use Rattle.eq_proof.specs.Text.{IsClauseUpTo, IsFirstBadLine};
+ghost use Rattle.eq_proof.specs.Text.{IsUpTo, IsClauseUpTo, IsFirstBadLine};
 ghost use Rattle.eq_proof.specs.Dimacs.{header_line, clause_line, dimacs_text, highest_of, IsFormula, IsDimacs, IsStop};
 
 use crate::clauses::Clauses;
@@ -103,7 +103,8 @@ fn line_of<'a>(text: &'a [u8], most: u32, lits: &mut Vec<Lit>) -> Result<Option<
 
 /// The DIMACS text of a formula.
 pub fn print_dimacs(alloc: Global, f: &Formula) -> Result<Bytes, Memory>
-    ensures { IfOk result (λ text. text ≡ dimacs_text f.now.vars f.now.clauses) }
+    ensures text { IfOk result (λ text. text ≡ dimacs_text f.now.vars f.now.clauses) }
+    ensures formula { OnOk result (IsFormula f.now.vars f.now.clauses) }
 {
     let mut out = Vec::new(alloc);
     push_header(&mut out, f.vars, f.clauses.len() as u64)?;
@@ -125,7 +126,8 @@ fn push_header(out: &mut Vec<u8>, vars: u32, count: u64) -> Result<(), Memory>
 }
 
 fn push_line(out: &mut Vec<u8>, clause: &[Lit]) -> Result<(), Memory>
-    ensures { OnOk result (out.new.items ≡ out.old.items ++ clause_line clause.now) }
+    ensures text { OnOk result (out.new.items ≡ out.old.items ++ clause_line clause.now) }
+    ensures range { OnOk result (All (IsUpTo (2 ^ 31 - 1)) clause.now) }
 {
     push_clause(out, clause)?;
     out.push(b'\n')?;

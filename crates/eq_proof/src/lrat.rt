@@ -1,8 +1,8 @@
 //! Logs as LRAT texts.
-ghost use Rattle.std.specs.Prelude.{◌≡◌, ◌≢◌, ◌+◌, ◌<◌, ◌≤◌, ◌^◌, ℕ, List, ◌++◌, length, IfOk, IfSome, IfNone, IsErrOf, MatchResult, OnOk};
+ghost use Rattle.std.specs.Prelude.{◌≡◌, ◌≢◌, ◌+◌, ◌-◌, ◌<◌, ◌≤◌, ◌^◌, ℕ, List, ◌++◌, length, All, IfOk, IfSome, IfNone, IsErrOf, MatchResult, OnOk};
 ghost use Rattle.eq_proof.specs.Clause.{IsClause};
 ghost use Rattle.eq_proof.specs.Inference.{Inference};
-ghost use Rattle.eq_proof.specs.Text.{IsFirstBadLine};
+ghost use Rattle.eq_proof.specs.Text.{IsUpTo, IsFirstBadLine};
 ghost use Rattle.eq_proof.specs.Lrat.{step_line, lrat_text, IsStep, IsNumbered, IsLrat};
 
 use crate::lit::Lit;
@@ -88,7 +88,8 @@ fn step_of<'a>(
 pub fn print_lrat(alloc: Global, first: u64, log: &Log) -> Result<Bytes, Memory>
     requires from_one { 1 ≤ first }
     requires low { first ≤ 2 ^ 63 }
-    ensures { IfOk result (λ text. text ≡ lrat_text first log.now) }
+    ensures text { IfOk result (λ text. text ≡ lrat_text first log.now) }
+    ensures numbered { OnOk result (IsNumbered first log.now) }
 {
     let mut out = Vec::new(alloc);
     for place in 0..log.len() {
@@ -99,7 +100,9 @@ pub fn print_lrat(alloc: Global, first: u64, log: &Log) -> Result<Bytes, Memory>
 }
 
 fn push_step(out: &mut Vec<u8>, number: u64, clause: &[Lit], ants: &[u64]) -> Result<(), Memory>
-    ensures { OnOk result (out.new.items ≡ out.old.items ++ step_line number (record { clause = clause.now; ants = ants.now })) }
+    ensures text { OnOk result (out.new.items ≡ out.old.items ++ step_line number (record { clause = clause.now; ants = ants.now })) }
+    ensures clause_range { OnOk result (All (IsUpTo (2 ^ 31 - 1)) clause.now) }
+    ensures ants_range { All (λ n. n < 2 ^ 64) ants.now }
 {
     push_number(out, number)?;
     out.push(b' ')?;

@@ -1,5 +1,5 @@
 //! Numbers in decimal without leading zeros.
-ghost use Rattle.std.specs.Prelude.{◌≡◌, ◌≢◌, ◌+◌, ◌*◌, ◌≤◌, ◌<◌, ◌^◌, ℕ, List, ◌∷◌, ◌++◌, true, false, IfSome, IfNone, OnOk, MatchBool};
+ghost use Rattle.std.specs.Prelude.{◌≡◌, ◌≢◌, ◌+◌, ◌*◌, ◌≤◌, ◌<◌, ◌^◌, ℕ, List, ◌∷◌, ◌++◌, false, IfSome, IfNone, OnOk, MatchBool};
 ghost use Rattle.std.specs.Fmt.{decimal};
 ghost use Rattle.eq_proof.specs.Numeral.{is_digit, value_on, EndsDigits};
 

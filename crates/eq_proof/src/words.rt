@@ -1,5 +1,5 @@
 //! Lists of literals and of numbers as words with a blank behind each and `0` at the end.
-ghost use Rattle.std.specs.Prelude.{◌≡◌, ◌≢◌, ◌≤◌, ◌<◌, ◌^◌, ◌↔◌, ℕ, List, [], ◌∷◌, ◌++◌, IsTrue, All, IfOk, IfSome, IfNone, OnOk};
+ghost use Rattle.std.specs.Prelude.{◌≡◌, ◌≢◌, ◌-◌, ◌≤◌, ◌<◌, ◌^◌, ◌↔◌, ℕ, List, [], ◌∷◌, ◌++◌, IsTrue, All, IfOk, IfSome, IfNone, OnOk};
 ghost use Rattle.std.specs.Fmt.{decimal};
 ghost use Rattle.eq_proof.specs.Literal.{Literal};
 ghost use Rattle.eq_proof.specs.Clause.{IsBefore, IsClause};
@@ -7,7 +7,7 @@ ghost use Rattle.eq_proof.specs.Text.{literal_word, clause_words, number_words, 
 
 use crate::lit::Lit;
 use crate::numeral::{number_before, push_number};
-use crate::text::{behind, first_of};
+use crate::text::behind;
 use eq_base::Memory;
 
 /// The clause at the front of a text, without the byte behind its `0`: its literals are kept in `lits`, and what follows is answered.
@@ -94,7 +94,8 @@ fn is_before(a: Lit, b: Lit) -> bool
 
 /// Writes a clause's words at the end.
 pub fn push_clause(out: &mut Vec<u8>, clause: &[Lit]) -> Result<(), Memory>
-    ensures { OnOk result (out.new.items ≡ out.old.items ++ clause_words clause.now) }
+    ensures text { OnOk result (out.new.items ≡ out.old.items ++ clause_words clause.now) }
+    ensures range { OnOk result (All (IsUpTo (2 ^ 31 - 1)) clause.now) }
 {
     for l in clause {
         push_literal(out, *l)?;
@@ -105,12 +106,14 @@ pub fn push_clause(out: &mut Vec<u8>, clause: &[Lit]) -> Result<(), Memory>
 }
 
 fn push_literal(out: &mut Vec<u8>, l: Lit) -> Result<(), Memory>
-    ensures { OnOk result (out.new.items ≡ out.old.items ++ literal_word l) }
+    ensures text { OnOk result (out.new.items ≡ out.old.items ++ literal_word l) }
+    ensures range { OnOk result (IsUpTo (2 ^ 31 - 1) l) }
 {
     if !l.positive() {
         out.push(b'-')?;
     }
-    push_number(out, u64::from(l.var()))
+    let var = l.var();
+    push_number(out, u64::from(var))
 }
 
 /// The numbers from 1 at the front of a text, without the byte behind their `0`: they are kept in `numbers`, and what follows is answered.
