@@ -250,7 +250,11 @@ fn damaged_lines_are_refused(rt: HostRuntime) -> Result<(), Fail> {
         let files: [(&str, &[u8]); 1] = [("job.eqy", job.as_bytes())];
         let (status, out) = run(&rt, rt.alloc(), &[b"job.eqy"], &files, &[], &[])?;
         assert_eq!(rt; status, 16, "line {place}: {line:?}");
-        assert_eq!(rt; out.written(), b"eqy: job.eqy: NotYet\n".as_slice(), "line {place}: {line:?}");
+        assert_eq!(rt;
+            out.written(),
+            b"eqy: job.eqy: NotYet\n".as_slice(),
+            "line {place}: {line:?}"
+        );
     }
     for depth in ["depth 1\n", "depth 64\n"] {
         let job = configuration(rt.alloc(), 8, depth)?;
@@ -319,7 +323,8 @@ fn an_expression_has_at_most_1000_marks(rt: HostRuntime) -> Result<(), Fail> {
     ] {
         let and = times(rt.alloc(), "a&", count)?;
         let gold = format!(in rt.alloc();
-            "module t(input a, output y); assign y = {and}a; endmodule")?;
+            "module t(input a, output y); assign y = {and}a; endmodule"
+        )?;
         let files: [(&str, &[u8]); 3] = [
             ("job.eqy", JOB),
             ("gold.v", gold.as_bytes()),
@@ -389,7 +394,14 @@ fn files_of_the_system_are_read(rt: HostRuntime) -> Result<(), Fail> {
         store.write(rt.alloc(), "eqy_test/gate.v", gate)?;
         let words = words_of(rt.alloc(), &[b"eqy_test/job.eqy"])?;
         let mut out = MemSink::new(rt.alloc(), &[])?;
-        let found = eqy(&rt, rt.alloc(), words.as_slice(), &mut store, &mut out, &NoGate);
+        let found = eqy(
+            &rt,
+            rt.alloc(),
+            words.as_slice(),
+            &mut store,
+            &mut out,
+            &NoGate,
+        );
         assert_eq!(rt; found, status);
         assert_eq!(rt; out.written(), output);
     }
