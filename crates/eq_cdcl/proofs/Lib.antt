@@ -1,0 +1,10 @@
+pub mod Places
+pub mod Slotted
+pub mod Sounds
+pub mod Sweeping
+pub mod Opening
+pub mod Counting
+pub mod Resolving
+pub mod Marks
+pub mod Asserted
+pub mod Logging
