@@ -14,7 +14,7 @@ mod token;
 mod word;
 
 pub use fault::{LexErr, LexKind};
-pub use key::Key;
+pub use key::{Key, key_of};
 pub use lex::{line_of, tokens};
 pub use mark::Mark;
 pub use token::{Constant, Token, TokenKind, Tokens};
