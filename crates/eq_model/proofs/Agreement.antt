@@ -1,7 +1,9 @@
 -- Designs that agree have the same runs and the same cut runs, and may stand for one another.
-use Rattle.std.proofs.Common.{ℕ, suc, ◌<◌, Bool, List, [], ◌∷◌, Contains, arith, sym, ap, subst, ◌∙◌, ◌↔◌}
+use Rattle.std.proofs.Common.{◌≡◌, ◌≢◌, ℕ, suc, ◌<◌, Bool, List, [], ◌∷◌, Option, Contains, AllPairs, arith, sym, ap, subst, ◌∙◌, ◌↔◌}
+use Rattle.std.specs.Option.{ForSome}
 use Rattle.eq_model.specs.System.{Values, Expr, Driver, input, undriven, equation, register, System, IsExpr, IsDriver, IsSystem, IsInput, IsLoopFree, IsChain, reads_now, Meets, Begins, Follows, Solves, IsInitial, nothing}
-use Rattle.eq_model.specs.Run.{Dir, IsPort, Given, Design, IsDesign, Run, HasOneRun, HasPorts, SameOutputs, Equivalent}
+use Rattle.eq_model.specs.Run.{Given, Design, IsDesign, key, dir, Run, HasOneRun, HasPorts, SameOutputs, Equivalent}
+use Rattle.eq_model.specs.Nets.{Dir, inner, is_input, IsPort, NetName, Key, Net, net_width, total_width, at_bit, HasNet}
 use Rattle.eq_model.specs.Agreement.{SameExpr, SameDriver, SameSystem, SameDesign}
 use Rattle.eq_model.specs.Plan.{Plan, IsOneToOne, PairsPorts, Covers}
 use Rattle.eq_model.specs.Cut.{is_cut, CutRun, IsFromInitial, Base, Step, Never}
@@ -121,14 +123,18 @@ one_to_one_same s s' h h' same_s same_h p one =
 pub back : (d e : Design) → SameDesign d e → SameDesign e d
 back d e h = record {
   system = system_back d.system e.system h.system;
-  keys = λ b lt. sym (h.keys b (within d.system e.system h.system b lt));
-  dirs = λ b lt. sym (h.dirs b (within d.system e.system h.system b lt));
-  ranges = λ b lt. sym (h.ranges b (within d.system e.system h.system b lt));
-  automatic = λ b lt. sym (h.automatic b (within d.system e.system h.system b lt));
+  nets = sym h.nets;
   ports = sym h.ports;
   clock = sym h.clock;
   copies = λ b lt. sym (h.copies b (within d.system e.system h.system b lt));
 }
+
+-- bits have the same names, places and directions
+pub key_same : (d e : Design) → SameDesign d e → (b : ℕ) → key d b ≡ key e b
+key_same d e same b = ap (λ nets. at_bit {A = Key} ([], 0) (λ n place. (n.name, place)) nets b) same.nets
+
+pub dir_same : (d e : Design) → SameDesign d e → (b : ℕ) → dir d b ≡ dir e b
+dir_same d e same b = ap (λ nets. at_bit inner (λ n place. n.dir) nets b) same.nets
 
 module _ (d e : Design) (same : SameDesign d e) where
   below : (b : ℕ) → b < e.bits → b < d.bits
@@ -144,15 +150,25 @@ module _ (d e : Design) (same : SameDesign d e) where
   is_design_same is = record {
     drivers = is_system_same d.system e.system same.system is.drivers;
     inputs = λ b lt. (
-      (λ i. sym (same.dirs b (below b lt)) ∙ (is.inputs b (below b lt)).0 (input_back b lt i)),
-      (λ f. input_on b lt ((is.inputs b (below b lt)).1 (same.dirs b (below b lt) ∙ f))),
+      (λ i. sym (dir_same d e same b) ∙ (is.inputs b (below b lt)).0 (input_back b lt i)),
+      (λ f. input_on b lt ((is.inputs b (below b lt)).1 (dir_same d e same b ∙ f))),
     );
-    apart = λ a b la lb f. is.apart a b (below a la) (below b lb) (same.keys a (below a la) ∙ f ∙ sym (same.keys b (below b lb)));
+    widths = ap total_width (sym same.nets) ∙ is.widths ∙ same.system.bits;
+    names = (let P : List Net → Type 0 = λ nets. AllPairs (λ m n. m.name ≢ n.name) nets in subst P same.nets is.names);
+    ports_once = (let P : List NetName → Type 0 = λ ports. AllPairs (λ p q. p ≢ q) ports in subst P same.ports is.ports_once);
+    ports = λ name. (
+        let P : List NetName → Type 0 = λ ports. Contains ports name ↔ HasNet e.nets name (λ n. IsPort n.dir) in
+        let Q : List Net → Type 0 = λ nets. Contains d.ports name ↔ HasNet nets name (λ n. IsPort n.dir) in
+        subst P same.ports (subst Q same.nets (is.ports name)));
+    clocked = (
+        let P : Option NetName → Type 0 = λ clock. ForSome clock (λ name. HasNet e.nets name (λ n. (n.dir ≡ is_input) × (net_width n ≡ 1))) in
+        let Q : List Net → Type 0 = λ nets. ForSome d.clock (λ name. HasNet nets name (λ n. (n.dir ≡ is_input) × (net_width n ≡ 1))) in
+        subst P same.clock (subst Q same.nets is.clocked));
   }
 
   pub run_same : (given : Given) (n : ℕ) (v : ℕ → Values) → Run d given n v → Run e given n v
   run_same given n v run = record {
-    inputs = λ c b lc lt i. run.inputs c b lc (below b lt) (input_back b lt i) ∙ ap (given c) (same.keys b (below b lt));
+    inputs = λ c b lc lt i. run.inputs c b lc (below b lt) (input_back b lt i) ∙ ap (given c) (key_same d e same b);
     begins = λ pos. initial_same d.system e.system same.system nothing (v 0) (run.begins pos);
     solves = solves_same d.system e.system same.system nothing n v run.solves;
   }
@@ -170,18 +186,18 @@ module _ (gold gold' gate gate' : Design) (g : SameDesign gold gold') (h : SameD
   ports_same ports a la port =
       let la' = within gold.system gold'.system g.system a la in
       let P : Dir → Type 0 = λ x. IsPort x in
-      let t = ports a la' (subst P (sym (g.dirs a la')) port) in
+      let t = ports a la' (subst P (sym (dir_same gold gold' g a)) port) in
       let e = h.system.bits in
       let lb : t.0 < gate.bits = t.1 in
-      (t.0, omega arith, sym (h.dirs t.0 lb) ∙ t.2 ∙ g.dirs a la', sym (h.keys t.0 lb) ∙ t.3 ∙ g.keys a la')
+      (t.0, omega arith, sym (dir_same gate gate' h t.0) ∙ t.2 ∙ dir_same gold gold' g a, sym (key_same gate gate' h t.0) ∙ t.3 ∙ key_same gold gold' g a)
 
   pairs_ports_same : (pairs : ℕ) (here there : ℕ → ℕ) → ((i : ℕ) → i < pairs → there i < gate.bits) → PairsPorts gold gate pairs here there → PairsPorts gold' gate' pairs here there
   pairs_ports_same pairs here there bits ports a la port =
       let la' = within gold.system gold'.system g.system a la in
       let P : Dir → Type 0 = λ x. IsPort x in
-      let t = ports a la' (subst P (sym (g.dirs a la')) port) in
+      let t = ports a la' (subst P (sym (dir_same gold gold' g a)) port) in
       let lb = bits t.0 t.1 in
-      (t.0, t.1, t.2, subst P (h.dirs (there t.0) lb) t.3, sym (h.keys (there t.0) lb) ∙ t.4 ∙ g.keys a la')
+      (t.0, t.1, t.2, subst P (dir_same gate gate' h (there t.0)) t.3, sym (key_same gate gate' h (there t.0)) ∙ t.4 ∙ key_same gold gold' g a)
 
 module _ (gold gold' gate gate' : Design) (g : SameDesign gold gold') (h : SameDesign gate gate') where
   outputs : SameOutputs gold gate → SameOutputs gold' gate'
@@ -189,10 +205,12 @@ module _ (gold gold' gate gate' : Design) (g : SameDesign gold gold') (h : SameD
       let li' = within gold.system gold'.system g.system i li in
       let lj' = within gate.system gate'.system h.system j lj in
       same given n v w (run_same gold' gold (back gold gold' g) given n v hv) (run_same gate' gate (back gate gate' h) given n w hw) c i j lc li' lj'
-      (g.dirs i li' ∙ di) (h.dirs j lj' ∙ dj) (g.keys i li' ∙ key ∙ sym (h.keys j lj'))
+      (dir_same gold gold' g i ∙ di) (dir_same gate gate' h j ∙ dj) (key_same gold gold' g i ∙ key ∙ sym (key_same gate gate' h j))
 
   pub equivalent_same : Equivalent gold gate → Equivalent gold' gate'
   equivalent_same e = record {
+    gold_design = is_design_same gold gold' g e.gold_design;
+    gate_design = is_design_same gate gate' h e.gate_design;
     gold_ports = ports_same gold gold' gate gate' g h e.gold_ports;
     gate_ports = ports_same gate gate' gold gold' h g e.gate_ports;
     gold_run = λ given n. has_one_same gold gold' g given n (e.gold_run given n);
@@ -209,14 +227,14 @@ module _ (gold gold' gate gate' : Design) (g : SameDesign gold gold') (h : SameD
         one_to_one = one_to_one_same gold.system gold'.system gate.system gate'.system g.system h.system p c.one_to_one;
         gold_ports = pairs_ports_same gold gold' gate gate' g h p.pairs p.gold p.gate gate_bits c.gold_ports;
         gate_ports = pairs_ports_same gate gate' gold gold' h g p.pairs p.gate p.gold gold_bits c.gate_ports;
-        plain_ports = λ i lt port. c.plain_ports i lt (subst P (sym (g.dirs (p.gold i) (gold_bits i lt))) port);
+        plain_ports = λ i lt port. c.plain_ports i lt (subst P (sym (dir_same gold gold' g (p.gold i))) port);
         gold_inputs = λ i lt. (
-          (λ e. sym (g.dirs (p.gold i) (gold_bits i lt)) ∙ (c.gold_inputs i lt).0 e),
-          (λ e. (c.gold_inputs i lt).1 (g.dirs (p.gold i) (gold_bits i lt) ∙ e)),
+          (λ e. sym (dir_same gold gold' g (p.gold i)) ∙ (c.gold_inputs i lt).0 e),
+          (λ e. (c.gold_inputs i lt).1 (dir_same gold gold' g (p.gold i) ∙ e)),
         );
         gate_inputs = λ i lt. (
-          (λ e. sym (h.dirs (p.gate i) (gate_bits i lt)) ∙ (c.gate_inputs i lt).0 e),
-          (λ e. (c.gate_inputs i lt).1 (h.dirs (p.gate i) (gate_bits i lt) ∙ e)),
+          (λ e. sym (dir_same gate gate' h (p.gate i)) ∙ (c.gate_inputs i lt).0 e),
+          (λ e. (c.gate_inputs i lt).1 (dir_same gate gate' h (p.gate i) ∙ e)),
         );
         in_one = c.in_one;
         in_pairs = c.in_pairs;

@@ -1,7 +1,8 @@
 -- Designs without registers are equivalent exactly where their outputs have the same values in one cycle.
 use Rattle.std.proofs.Common.{ℕ, ◌<◌, Bool, arith, inl, inr, ◌↔◌}
-use Rattle.eq_model.specs.System.{Values, Driver, input, undriven, equation, register, IsSystem, IsLoopFree, IsInput, IsHeld, Begins, Cycle, nothing}
-use Rattle.eq_model.specs.Run.{Design, Key, Given, Run, HasPorts, SameOutputs, Equivalent}
+use Rattle.eq_model.specs.System.{Values, Driver, input, undriven, equation, register, IsLoopFree, IsInput, IsHeld, Begins, Cycle, nothing}
+use Rattle.eq_model.specs.Run.{Design, IsDesign, Given, Run, HasPorts, SameOutputs, Equivalent, key}
+use Rattle.eq_model.specs.Nets.{Key}
 use Rattle.eq_model.specs.Combinational.{IsPlain, IsCombinational, SameValues}
 use Rattle.eq_model.proofs.Trace.{is_held, one_run}
 
@@ -18,14 +19,14 @@ plain_begins (equation e) plain x = tt
 plain_begins (register i e) plain x = absurd plain
 
 -- a cycle of a run
-cycle_of : (d : Design) → IsCombinational d → (given : Given) (n : ℕ) (v : ℕ → Values) → Run d given n v → (c : ℕ) → c < n → Cycle d.system nothing (λ b. given c (d.key b)) (v c)
+cycle_of : (d : Design) → IsCombinational d → (given : Given) (n : ℕ) (v : ℕ → Values) → Run d given n v → (c : ℕ) → c < n → Cycle d.system nothing (λ b. given c (key d b)) (v c)
 cycle_of d plain given n v run c lc = record {
   held = λ b lb why. elim why [ inl e ↦ absurd (cc) | inr h ↦ run.inputs c b lc lb (held_is_input (d.driver b) (plain b lb) h) ];
   driven = λ b lb kept. run.solves.now c b lc lb kept;
 }
 
 -- a run of one cycle
-run_of : (d : Design) → IsCombinational d → (given : Key → Bool) (v : Values) → Cycle d.system nothing (λ b. given (d.key b)) v → Run d (λ c. given) 1 (λ c. v)
+run_of : (d : Design) → IsCombinational d → (given : Key → Bool) (v : Values) → Cycle d.system nothing (λ b. given (key d b)) v → Run d (λ c. given) 1 (λ c. v)
 run_of d plain given v h = record {
   inputs = λ c b lc lb is. h.held b lb (inr (is_held (d.driver b) is));
   begins = λ pos b lb kept. plain_begins (d.driver b) (plain b lb) (v b);
@@ -44,15 +45,17 @@ module _ (gold gate : Design) (gold_plain : IsCombinational gold) (gate_plain : 
   same_values same given v w hv hw a b la lb da db k =
       same (λ c. given) 1 (λ c. v) (λ c. w) (run_of gold gold_plain given v hv) (run_of gate gate_plain given w hw) 0 a b (omega arith) la lb da db k
 
-  pub plain_equivalent : IsSystem gold.system → IsSystem gate.system → IsLoopFree gold.system → IsLoopFree gate.system → HasPorts gold gate → HasPorts gate gold →
+  pub plain_equivalent : IsDesign gold → IsDesign gate → IsLoopFree gold.system → IsLoopFree gate.system → HasPorts gold gate → HasPorts gate gold →
       Equivalent gold gate ↔ SameValues gold gate
   plain_equivalent gold_is gate_is gold_free gate_free gold_ports gate_ports = (
     (λ e. same_values e.outputs),
     (λ same. record {
+      gold_design = gold_is;
+      gate_design = gate_is;
       gold_ports = gold_ports;
       gate_ports = gate_ports;
-      gold_run = one_run gold gold_is gold_free;
-      gate_run = one_run gate gate_is gate_free;
+      gold_run = one_run gold gold_is.drivers gold_free;
+      gate_run = one_run gate gate_is.drivers gate_free;
       outputs = same_outputs same;
     }),
   )

@@ -6,9 +6,11 @@
 use Rattle.std.proofs.Common.{◌≡◌, ℕ, suc, ◌<◌, Bool, true, false, refl, arith, sym, ap, subst, ◌∙◌, ◌⊎◌, inl, inr}
 use Rattle.std.proofs.lemmas.Bool.{cases_Bool, false_from_ne_true}
 use Rattle.eq_model.specs.System.{Values, Driver, input, undriven, equation, register, IsInput, Meets, Begins, Follows, IsLoopFree, Agree, nothing}
-use Rattle.eq_model.specs.Run.{Dir, inner, is_input, is_output, IsPort, Given, Design, IsDesign, Run, SameOutputs, Equivalent}
+use Rattle.eq_model.specs.Run.{Given, Design, IsDesign, Run, SameOutputs, Equivalent, key, dir}
+use Rattle.eq_model.specs.Nets.{Dir, inner, is_input, is_output, IsPort}
 use Rattle.eq_model.specs.Plan.{Plan, Covers, signed, gate_value}
 use Rattle.eq_model.specs.Cut.{is_cut, CutRun, IsFromInitial, Never}
+use Rattle.eq_model.proofs.Bits.{bits_apart}
 use Rattle.eq_model.proofs.Induction.{same_from}
 use Rattle.eq_model.proofs.Places.{cut_from, cut_some, kept_inside, index_of, index_is}
 use Rattle.eq_model.proofs.Signs.{signed_on}
@@ -136,7 +138,7 @@ module _ (gold gate : Design) (p : Plan) (gold_sound : IsDesign gold) (gate_soun
           | inl h ↦ (
               let t = cut_some p.pairs p.gate nothing b h in
               elim (cases_Bool (p.input t.0)) [
-                | inl is ↦ inl (inr ((gate_sound.inputs b lb).1 (ap gate.dir (sym t.2) ∙ (covers.gate_inputs t.0 t.1).0 is)))
+                | inl is ↦ inl (inr ((gate_sound.inputs b lb).1 (ap (dir gate) (sym t.2) ∙ (covers.gate_inputs t.0 t.1).0 is)))
                 | inr is_not ↦ (
                     let one = covers.in_one t.0 t.1 is_not in
                     inr (one.0, one.1, kept_inside p.pairs p.gate covers.one_to_one.gate_once (p.holds one.0) t.0 b t.1 t.2 one.2))
@@ -179,16 +181,16 @@ module _ (gold gate : Design) (p : Plan) (gold_sound : IsDesign gold) (gate_soun
     port_of_input d e = let P : Dir → Type 0 = λ x. IsPort x in subst P (sym e) tt
 
     -- ports are paired by plain pairs
-    pub plain_same : (c i : ℕ) → c < n → i < p.pairs → IsPort (gold.dir (p.gold i)) → v c (p.gold i) ≡ mixed nothing c (p.gate i)
+    pub plain_same : (c i : ℕ) → c < n → i < p.pairs → IsPort (dir gold (p.gold i)) → v c (p.gold i) ≡ mixed nothing c (p.gate i)
     plain_same c i lc li port =
         outside_same nothing c i lc li refl ∙ ap (λ s. signed s (mixed nothing c (p.gate i))) (covers.plain_ports i li port)
 
-    gate_input : (c b : ℕ) → c < n → b < gate.bits → IsInput (gate.driver b) → mixed nothing c b ≡ given c (gate.key b)
+    gate_input : (c b : ℕ) → c < n → b < gate.bits → IsInput (gate.driver b) → mixed nothing c b ≡ given c (key gate b)
     gate_input c b lc lb is =
-        let dir = (gate_sound.inputs b lb).0 is in
-        let t = covers.gate_ports b lb (port_of_input (gate.dir b) dir) in
-        let gate_in : gate.dir (p.gate t.0) ≡ is_input = ap gate.dir t.2 ∙ dir in
-        let gold_in : gold.dir (p.gold t.0) ≡ is_input = (covers.gold_inputs t.0 t.1).0 ((covers.gate_inputs t.0 t.1).1 gate_in) in
+        let at = (gate_sound.inputs b lb).0 is in
+        let t = covers.gate_ports b lb (port_of_input (dir gate b) at) in
+        let gate_in : dir gate (p.gate t.0) ≡ is_input = ap (dir gate) t.2 ∙ at in
+        let gold_in : dir gold (p.gold t.0) ≡ is_input = (covers.gold_inputs t.0 t.1).0 ((covers.gate_inputs t.0 t.1).1 gate_in) in
         let lg : p.gold t.0 < gold.bits = covers.one_to_one.gold_bits t.0 t.1 in
         let P : ℕ → Type 0 = λ x. mixed nothing c x ≡ v c (p.gold t.0) in
         subst P t.2 (sym (plain_same c t.0 lc t.1 t.3))
@@ -211,30 +213,32 @@ module _ (gold gate : Design) (p : Plan) (gold_sound : IsDesign gold) (gate_soun
         let P : Dir → Type 0 = λ x. IsPort x in
         let t = covers.gold_ports a la (subst P (sym da) tt) in
         let lg : p.gate t.0 < gate.bits = covers.one_to_one.gate_bits t.0 t.1 in
-        let here : p.gate t.0 ≡ b = gate_sound.apart (p.gate t.0) b lg lb (t.4 ∙ same) in
-        ap (v c) (sym t.2) ∙ plain_same given n v hv c t.0 lc t.1 (subst (λ x. IsPort (gold.dir x)) (sym t.2) (subst P (sym da) tt))
+        let here : p.gate t.0 ≡ b = bits_apart gate gate_sound (p.gate t.0) b lg lb (t.4 ∙ same) in
+        ap (v c) (sym t.2) ∙ plain_same given n v hv c t.0 lc t.1 (subst (λ x. IsPort (dir gold x)) (sym t.2) (subst P (sym da) tt))
         ∙ (one_run gate gate_sound.drivers gate_free given n).only (mixed given n v hv nothing) w (mixed_run given n v hv) hw c (p.gate t.0) lc lg
         ∙ ap (w c) here
 
     pub equivalent : Equivalent gold gate
     equivalent = record {
+      gold_design = gold_sound;
+      gate_design = gate_sound;
       gold_ports = λ a la h. (
           let t = covers.gold_ports a la h in
-          let P : ℕ → Type 0 = λ x. IsPort (gold.dir x) in (
+          let P : ℕ → Type 0 = λ x. IsPort (dir gold x) in (
             p.gate t.0,
             covers.one_to_one.gate_bits t.0 t.1,
-            same_dir (gold.dir a) (gate.dir (p.gate t.0)) h t.3
-                (λ e. (covers.gate_inputs t.0 t.1).0 ((covers.gold_inputs t.0 t.1).1 (ap gold.dir t.2 ∙ e)))
-                (λ e. ap gold.dir (sym t.2) ∙ (covers.gold_inputs t.0 t.1).0 ((covers.gate_inputs t.0 t.1).1 e)),
+            same_dir (dir gold a) (dir gate (p.gate t.0)) h t.3
+                (λ e. (covers.gate_inputs t.0 t.1).0 ((covers.gold_inputs t.0 t.1).1 (ap (dir gold) t.2 ∙ e)))
+                (λ e. ap (dir gold) (sym t.2) ∙ (covers.gold_inputs t.0 t.1).0 ((covers.gate_inputs t.0 t.1).1 e)),
             t.4,
           ));
       gate_ports = λ a la h. (
           let t = covers.gate_ports a la h in (
             p.gold t.0,
             covers.one_to_one.gold_bits t.0 t.1,
-            same_dir (gate.dir a) (gold.dir (p.gold t.0)) h t.3
-                (λ e. (covers.gold_inputs t.0 t.1).0 ((covers.gate_inputs t.0 t.1).1 (ap gate.dir t.2 ∙ e)))
-                (λ e. ap gate.dir (sym t.2) ∙ (covers.gate_inputs t.0 t.1).0 ((covers.gold_inputs t.0 t.1).1 e)),
+            same_dir (dir gate a) (dir gold (p.gold t.0)) h t.3
+                (λ e. (covers.gold_inputs t.0 t.1).0 ((covers.gate_inputs t.0 t.1).1 (ap (dir gate) t.2 ∙ e)))
+                (λ e. ap (dir gate) (sym t.2) ∙ (covers.gate_inputs t.0 t.1).0 ((covers.gold_inputs t.0 t.1).1 e)),
             t.4,
           ));
       gold_run = one_run gold gold_sound.drivers gold_free;

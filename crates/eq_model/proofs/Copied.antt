@@ -2,12 +2,12 @@
 use Rattle.std.proofs.Common.{◌≡◌, ℕ, zero, suc, ◌<◌, Bool, true, false, not, cond, ◌==◌, ◌&&◌, Contains, refl, arith, sym, ap, subst, ◌∙◌, inl, inr}
 use Rattle.std.proofs.lemmas.Bool.{cases_Bool, cond-true, cond-false, and_parts, and_from, false_from_ne_true}
 use Rattle.std.proofs.lemmas.Bool.Decides.{Decides-eqb}
-use Rattle.eq_model.specs.System.{Values, Driver, input, undriven, equation, register, System, IsSystem, IsDriver, IsHeld, IsInput, Meets, Begins, Follows, reads_now, IsLoopFree, Solves, IsInitial, nothing}
+use Rattle.eq_model.specs.System.{Values, Driver, input, undriven, equation, register, System, IsSystem, IsDriver, IsHeld, IsInput, Meets, Begins, Follows, reads_now, IsLoopFree, Solves, IsInitial, nothing, is_register}
 use Rattle.eq_model.specs.Plan.{Plan, IsOneToOne, signed}
 use Rattle.eq_model.specs.Cut.{any_below, is_cut, CutRun, IsFromInitial}
 use Rattle.eq_model.specs.Part.{Part, IsPart, PartRun}
 use Rattle.eq_model.specs.Denotes.{Fits, Denotes}
-use Rattle.eq_model.specs.Copying.{CopiesDriver, is_register, Negates, IsSigned, Copies, Copying}
+use Rattle.eq_model.specs.Copying.{CopiesDriver, Negates, IsSigned, Copies, Copying}
 use Rattle.eq_model.proofs.Order.{by_reads, free_from_rank}
 use Rattle.eq_model.proofs.Places.{any_from, cut_from, index_of, index_is, find_below, found}
 use Rattle.eq_model.proofs.Trace.{Trace, InitialTrace, trace, is_trace, initial_trace, is_initial_trace}

@@ -51,10 +51,7 @@ conjunctions_equivalent = equivalent (design conjunction) (design de_morgan) con
 pub conjunctions_agree : SameDesign (design conjunction) (design de_morgan)
 conjunctions_agree = record {
   system = record { bits = refl; drivers = drivers };
-  keys = λ b lb. refl;
-  dirs = dirs;
-  ranges = λ b lb. refl;
-  automatic = λ b lb. refl;
+  nets = refl;
   ports = refl;
   clock = refl;
   copies = λ b lb. refl;
@@ -65,12 +62,6 @@ conjunctions_agree = record {
     drivers (suc zero) lb = tt
     drivers (suc (suc zero)) lb = record { reads = λ b. ((λ c. c), (λ c. c)); value = λ v. sym (de_morgan_law (v 0) (v 1)) }
     drivers (suc (suc (suc b))) lb = absurd (omega arith)
-
-    dirs : (b : ℕ) → b < 3 → (design conjunction).dir b ≡ (design de_morgan).dir b
-    dirs zero lb = refl
-    dirs (suc zero) lb = refl
-    dirs (suc (suc zero)) lb = refl
-    dirs (suc (suc (suc b))) lb = absurd (omega arith)
 
 -- two designs of two functions
 

@@ -1,7 +1,7 @@
 -- What holds of values holds of others that agree on the bits.
 use Rattle.std.proofs.Common.{◌≡◌, ℕ, suc, ◌<◌, Bool, arith, sym, subst, ◌∙◌, inr}
 use Rattle.eq_model.specs.System.{Values, Driver, input, undriven, equation, register, IsSystem, IsDriver, IsHeld, IsInput, Meets, Begins, Follows, Cycle, nothing, Agree}
-use Rattle.eq_model.specs.Run.{Design, Given, Run}
+use Rattle.eq_model.specs.Run.{Design, Given, Run, key}
 use Rattle.eq_model.proofs.Trace.{is_held}
 
 -- a driver is met alike where the values agree
@@ -46,7 +46,7 @@ begins_held (register i e) x y h f = h tt ∙ f
 
 -- cycles that are solved one after another, each from what the one before gives the registers, are a run
 pub stepped : (d : Design) (given : Given) (n : ℕ) (u v : ℕ → Values) → ((c : ℕ) → c < n → Cycle d.system nothing (u c) (v c)) →
-    ((c b : ℕ) → c < n → b < d.bits → IsInput (d.driver b) → u c b ≡ given c (d.key b)) →
+    ((c b : ℕ) → c < n → b < d.bits → IsInput (d.driver b) → u c b ≡ given c (key d b)) →
     (0 < n → (b : ℕ) → b < d.bits → Begins (d.driver b) (u 0 b)) →
     ((c b : ℕ) → suc c < n → b < d.bits → Follows (d.driver b) (v c) (u (suc c) b)) → Run d given n v
 stepped d given n u v cycles inputs first next = record {

@@ -3,7 +3,7 @@ use Rattle.std.proofs.Common.{◌≡◌, ℕ, suc, ◌<◌, Bool, true, false, �
 use Rattle.std.proofs.lemmas.Bool.{cases_Bool, false_from_ne_true}
 use Rattle.std.proofs.lemmas.Bool.Decides.{Decides-eqb}
 use Rattle.eq_model.specs.System.{Values, Driver, input, undriven, equation, register, System, IsSystem, IsDriver, IsHeld, Meets, Begins, Follows, IsLoopFree, IsInput, Cycle, rounds, Solves, IsInitial, nothing}
-use Rattle.eq_model.specs.Run.{Design, Given, Run}
+use Rattle.eq_model.specs.Run.{Design, Given, Run, key}
 use Rattle.eq_model.specs.Plan.{Plan, IsOneToOne, signed}
 use Rattle.eq_model.specs.Cut.{is_cut, CutRun, IsFromInitial}
 use Rattle.eq_model.specs.Part.{Part}
@@ -154,7 +154,7 @@ module _ (s g : System) (own : ℕ → ℕ) (graph : IsGraphOf s g own) (cut gcu
 
 -- so a run of the nodes is one of the bits
 pub graph_run : (d : Design) (g : System) (own : ℕ → ℕ) → IsGraphOf d.system g own → (given : Given) (n : ℕ) (x : ℕ → Values) →
-    Solves g nothing n x → (0 < n → IsInitial g nothing (x 0)) → ((c b : ℕ) → c < n → b < d.bits → IsInput (d.driver b) → x c (own b) ≡ given c (d.key b)) →
+    Solves g nothing n x → (0 < n → IsInitial g nothing (x 0)) → ((c b : ℕ) → c < n → b < d.bits → IsInput (d.driver b) → x c (own b) ≡ given c (key d b)) →
     Run d given n (λ c b. x c (own b))
 graph_run d g own graph given n x solves begins inputs = record {
   inputs = inputs;

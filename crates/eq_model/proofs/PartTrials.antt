@@ -1,10 +1,10 @@
 -- Parts of partitions with an inverted pair, once outside and once inside.
 use Rattle.std.proofs.Common.{◌≡◌, ℕ, zero, suc, ◌<◌, Bool, true, false, not, List, [], ◌∷◌, Contains, refl, arith, sym, ap, subst, ◌⊎◌, inl, inr}
-use Rattle.eq_model.specs.System.{System, IsInput}
+use Rattle.eq_model.specs.System.{System, IsInput, is_register}
 use Rattle.eq_model.specs.Cut.{is_cut}
 use Rattle.eq_model.specs.Part.{Part, IsPart, LeadsTo, IsTrim}
 use Rattle.eq_model.specs.Denotes.{Pinout, Denotes}
-use Rattle.eq_model.specs.Copying.{CopiesDriver, is_register, IsSigned, Copies, Copying}
+use Rattle.eq_model.specs.Copying.{CopiesDriver, IsSigned, Copies, Copying}
 use Rattle.eq_model.specs.Table.{Signal, input_port, output_port, inner_wire, inner_register, wire, inverter, xor_gate, design}
 use Rattle.eq_model.specs.Examples.{toggle, complement_toggle, complements, output_part, register_part}
 use Rattle.eq_model.proofs.Order.{contains_head, contains_tail}

@@ -1,7 +1,8 @@
 -- The first cycles of a run are a run.
 use Rattle.std.proofs.Common.{◌≡◌, ℕ, suc, ◌<◌, ◌≤◌, Bool, arith}
 use Rattle.eq_model.specs.System.{Values, System, Solves, nothing}
-use Rattle.eq_model.specs.Run.{is_output, Given, Design, Run, SameOutputs}
+use Rattle.eq_model.specs.Run.{Given, Design, Run, SameOutputs, key, dir}
+use Rattle.eq_model.specs.Nets.{is_output}
 
 -- the first m cycles of a solution
 pub front : (s : System) (cut : ℕ → Bool) (n : ℕ) (v : ℕ → Values) → Solves s cut n v → (m : ℕ) → m ≤ n → Solves s cut m v
@@ -19,6 +20,6 @@ run_front d given n v run m le = record {
 
 -- so outputs that are the same in the last cycle of runs of every length are the same in every cycle
 pub from_last : (gold gate : Design) → ((given : Given) (n : ℕ) (v w : ℕ → Values) → Run gold given (suc n) v → Run gate given (suc n) w →
-    (a b : ℕ) → a < gold.bits → b < gate.bits → gold.dir a ≡ is_output → gate.dir b ≡ is_output → gold.key a ≡ gate.key b → v n a ≡ w n b) → SameOutputs gold gate
+    (a b : ℕ) → a < gold.bits → b < gate.bits → dir gold a ≡ is_output → dir gate b ≡ is_output → key gold a ≡ key gate b → v n a ≡ w n b) → SameOutputs gold gate
 from_last gold gate last given n v w hv hw c a b lc la lb da db key =
     last given c v w (run_front gold given n v hv (suc c) lc) (run_front gate given n w hw (suc c) lc) a b la lb da db key

@@ -39,10 +39,11 @@ module _ (s h : System) (p : Plan) (inside : ℕ → Bool) (t : Part) (denotes :
   base_to_part k b =
       let r = denotes.part_run_initial k b.v b.w b.run b.initial in
       let pos = b.run.some in
-      record { given = r.0; x = r.1; run = r.2; initial = r.3; differ = differ_to_part p inside t denotes.pinout k r.0 r.1 b.v b.w r.4 (k - 1) (omega arith) b.differ }
+      record { some = pos; given = r.0; x = r.1; run = r.2; initial = r.3; differ = differ_to_part p inside t denotes.pinout k r.0 r.1 b.v b.w r.4 (k - 1) (omega arith) b.differ }
 
-  base_from_part : (k : ℕ) → 0 < k → PartBase t k → Base s h p inside k
-  base_from_part k pos b =
+  base_from_part : (k : ℕ) → PartBase t k → Base s h p inside k
+  base_from_part k b =
+      let pos = b.some in
       let r = denotes.cut_run_initial k b.given b.x pos b.run b.initial in
       record { v = r.0; w = r.1; run = r.2; initial = r.3; differ = differ_from_part p inside t denotes.pinout k b.given b.x r.0 r.1 r.4 (k - 1) (omega arith) b.differ }
 
@@ -68,8 +69,8 @@ module _ (s h : System) (p : Plan) (inside : ℕ → Bool) (t : Part) (denotes :
         differ = differ_from_part p inside t denotes.pinout (suc k) b.given b.x r.0 r.1 r.3 k (omega arith) b.differ;
       }
 
-  pub same_base : (k : ℕ) → 0 < k → Base s h p inside k ↔ PartBase t k
-  same_base k pos = (base_to_part k, base_from_part k pos)
+  pub same_base : (k : ℕ) → Base s h p inside k ↔ PartBase t k
+  same_base k = (base_to_part k, base_from_part k)
 
   pub same_step : (k : ℕ) → Step s h p inside k ↔ PartStep t k
   same_step k = (step_to_part k, step_from_part k)

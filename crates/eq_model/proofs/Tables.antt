@@ -5,11 +5,13 @@ use Rattle.std.proofs.lemmas.Bool.{and_parts, or_cases, not-true, cases_lt, ltb-
 use Rattle.std.proofs.lemmas.Bool.Decides.{Decides-eqb}
 use Rattle.std.proofs.lemmas.List.Elements.{Contains-append_left, Contains-append_right}
 use Rattle.eq_model.specs.System.{Values, IsExpr, IsDriver, IsInput, reads_now, Reads, IsLoopFree}
-use Rattle.eq_model.specs.Run.{Dir, is_input, IsPort, Key, IsDesign}
+use Rattle.eq_model.specs.Run.{key, dir, IsDesign}
+use Rattle.eq_model.specs.Nets.{Dir, is_input, IsPort}
 use Rattle.eq_model.specs.Plan.{Covers}
 use Rattle.eq_model.specs.Cut.{any_below}
-use Rattle.eq_model.specs.Table.{Gate, low, wire, inverter, and_gate, or_gate, xor_gate, reads_of, value_of, expr_of, Signal, input_port, output_port, inner_wire, inner_register, dir_of, driver_of, signal_at, is_port, is_input_port, design, plan_of}
+use Rattle.eq_model.specs.Table.{Gate, low, wire, inverter, and_gate, or_gate, xor_gate, reads_of, value_of, expr_of, Signal, input_port, output_port, inner_wire, inner_register, inner_open, dir_of, driver_of, signal_at, is_port, nets_of_lines, is_input_port, design, plan_of}
 use Rattle.eq_model.proofs.Order.{contains_head, passes, free_from_rank}
+use Rattle.eq_model.proofs.TableNets.{ports_are, ports_once, table_width, table_names, table_dir, table_key}
 use Rattle.eq_model.proofs.Places.{find_below, found, same_number}
 
 -- each number below n passes
@@ -59,6 +61,7 @@ fits n input_port = true
 fits n (output_port g) = all_under n (reads_of g)
 fits n (inner_wire g) = all_under n (reads_of g)
 fits n (inner_register init g) = all_under n (reads_of g)
+fits n inner_open = true
 
 abbrev pub is_sound : List Signal → Bool
 is_sound lines = all_below (length lines) (λ b. fits (length lines) (signal_at lines b))
@@ -71,21 +74,26 @@ driver_is n input_port h = tt
 driver_is n (output_port g) h = expr_is n g h
 driver_is n (inner_wire g) h = expr_is n g h
 driver_is n (inner_register init g) h = expr_is n g h
+driver_is n inner_open h = tt
 
 inputs_of : (s : Signal) → IsInput (driver_of s) ↔ (dir_of s ≡ is_input)
 inputs_of input_port = ((λ _. refl), (λ _. tt))
 inputs_of (output_port g) = ((λ h. absurd h), (λ e. absurd (cc)))
 inputs_of (inner_wire g) = ((λ h. absurd h), (λ e. absurd (cc)))
 inputs_of (inner_register init g) = ((λ h. absurd h), (λ e. absurd (cc)))
-
-pub same_name : (a b : ℕ) → ◌≡◌ {A = Key} (a ∷ [], 0) (b ∷ [], 0) → a ≡ b
-same_name a b e = (let f : a ∷ [] ≡ b ∷ [] = ap (λ (k : Key). k.0) e in cc)
+inputs_of inner_open = ((λ h. absurd h), (λ e. absurd (cc)))
 
 pub design_is : (lines : List Signal) → is_sound lines ≡ true → IsDesign (design lines)
 design_is lines h = record {
   drivers = λ b lt. driver_is (length lines) (signal_at lines b) (at_all (length lines) (λ b. fits (length lines) (signal_at lines b)) h b lt);
-  inputs = λ b lt. inputs_of (signal_at lines b);
-  apart = λ a b la lb e. same_name a b e;
+  widths = table_width 0 lines;
+  names = table_names 0 lines;
+  inputs = λ b lt. (
+      let P : Dir → Type 0 = λ d. IsInput (driver_of (signal_at lines b)) ↔ (d ≡ is_input) in
+      subst P (sym (table_dir lines b lt)) (inputs_of (signal_at lines b)));
+  ports_once = ports_once (nets_of_lines 0 lines) (table_names 0 lines);
+  ports = ports_are (nets_of_lines 0 lines);
+  clocked = λ name e. absurd (cc);
 }
 
 -- each line reads lines of lower rank
@@ -107,6 +115,7 @@ same_side input_port input_port = true
 same_side (output_port g) (output_port h) = true
 same_side (inner_wire g) (inner_wire h) = true
 same_side (inner_register i g) (inner_register j h) = true
+same_side inner_open inner_open = true
 same_side _ _ = false
 
 same_dir : (s t : Signal) → same_side s t ≡ true → dir_of s ≡ dir_of t
@@ -114,6 +123,7 @@ same_dir input_port input_port e = refl
 same_dir (output_port g) (output_port h) e = refl
 same_dir (inner_wire g) (inner_wire h) e = refl
 same_dir (inner_register i g) (inner_register j h) e = refl
+same_dir inner_open inner_open e = refl
 same_dir _ _ e = absurd (cc)
 
 port_is : (s : Signal) → IsPort (dir_of s) → is_port s ≡ true
@@ -121,12 +131,14 @@ port_is input_port h = refl
 port_is (output_port g) h = refl
 port_is (inner_wire g) h = absurd h
 port_is (inner_register i g) h = absurd h
+port_is inner_open h = absurd h
 
 input_is : (s : Signal) → (is_input_port s ≡ true) ↔ (dir_of s ≡ is_input)
 input_is input_port = ((λ _. refl), (λ _. refl))
 input_is (output_port g) = ((λ e. absurd (cc)), (λ e. absurd (cc)))
 input_is (inner_wire g) = ((λ e. absurd (cc)), (λ e. absurd (cc)))
 input_is (inner_register i g) = ((λ e. absurd (cc)), (λ e. absurd (cc)))
+input_is inner_open = ((λ e. absurd (cc)), (λ e. absurd (cc)))
 
 abbrev in_list : List ℕ → ℕ → Bool
 in_list xs i = list_any (λ j. j == i) xs
@@ -175,8 +187,19 @@ module _ (gold gate : List Signal) (n : ℕ) (inverted : ℕ → Bool) (parts : 
     dir_at : (i : ℕ) → i < n → dir_of (signal_at gold i) ≡ dir_of (signal_at gate i)
     dir_at i lt = same_dir (signal_at gold i) (signal_at gate i) (at_all n (λ i. same_side (signal_at gold i) (signal_at gate i)) is.sides i lt)
 
-    port : Dir → Type 0
-    port d = IsPort d
+    gold_dir : (i : ℕ) → i < n → dir (design gold) i ≡ dir_of (signal_at gold i)
+    gold_dir i lt = (let size : n < suc (length gold) = ltb-true n (suc (length gold)) is.gold_size in table_dir gold i (omega arith))
+
+    dirs : (i : ℕ) → i < n → dir (design gold) i ≡ dir (design gate) i
+    dirs i lt = (
+        let size : n < suc (length gate) = ltb-true n (suc (length gate)) is.gate_size in
+        gold_dir i lt ∙ dir_at i lt ∙ sym (table_dir gate i (omega arith)))
+
+    keys : (i : ℕ) → i < n → key (design gold) i ≡ key (design gate) i
+    keys i lt =
+        let gold_size : n < suc (length gold) = ltb-true n (suc (length gold)) is.gold_size in
+        let gate_size : n < suc (length gate) = ltb-true n (suc (length gate)) is.gate_size in
+        table_key gold i (omega arith) ∙ sym (table_key gate i (omega arith))
 
     gold_port : (a : ℕ) → a < length gold → IsPort (dir_of (signal_at gold a)) → a < n
     gold_port a la h = ltb-true a n (implied (is_port (signal_at gold a)) (nat_lt a n)
@@ -216,14 +239,21 @@ module _ (gold gate : List Signal) (n : ℕ) (inverted : ℕ → Bool) (parts : 
             gold_once = λ i j li lj e. e;
             gate_once = λ i j li lj e. e;
           };
-          gold_ports = λ a la h. (let lt = gold_port a la h in (a, lt, refl, subst P (dir_at a lt) h, refl));
-          gate_ports = λ a la h. (let lt = gate_port a la h in (a, lt, refl, subst P (sym (dir_at a lt)) h, refl));
+          gold_ports = λ a la h. (
+              let lt = gold_port a la (subst P (table_dir gold a la) h) in
+              (a, lt, refl, subst P (dirs a lt) h, sym (keys a lt)));
+          gate_ports = λ a la h. (
+              let lt = gate_port a la (subst P (table_dir gate a la) h) in
+              (a, lt, refl, subst P (sym (dirs a lt)) h, keys a lt));
           plain_ports = λ i lt h. not-true (inverted i) (implied (is_port (signal_at gold i)) (not (inverted i))
-              (at_all n (λ i. not (is_port (signal_at gold i)) || not (inverted i)) is.signs i lt) (port_is (signal_at gold i) h));
-          gold_inputs = λ i lt. input_is (signal_at gold i);
+              (at_all n (λ i. not (is_port (signal_at gold i)) || not (inverted i)) is.signs i lt) (port_is (signal_at gold i) (subst P (gold_dir i lt) h)));
+          gold_inputs = λ i lt. (
+            (λ e. gold_dir i lt ∙ (input_is (signal_at gold i)).0 e),
+            (λ e. (input_is (signal_at gold i)).1 (sym (gold_dir i lt) ∙ e)),
+          );
           gate_inputs = λ i lt. (
-            (λ e. sym (dir_at i lt) ∙ (input_is (signal_at gold i)).0 e),
-            (λ e. (input_is (signal_at gold i)).1 (dir_at i lt ∙ e)),
+            (λ e. sym (dirs i lt) ∙ gold_dir i lt ∙ (input_is (signal_at gold i)).0 e),
+            (λ e. (input_is (signal_at gold i)).1 (sym (gold_dir i lt) ∙ dirs i lt ∙ e)),
           );
           in_one = in_one;
           in_pairs = in_pairs;

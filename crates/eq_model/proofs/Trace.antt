@@ -2,7 +2,7 @@
 use Rattle.std.proofs.Common.{◌≡◌, ℕ, zero, suc, ◌<◌, Bool, true, false, cond, refl, arith, sym, ap, ◌∙◌, ◌⊎◌, inl, inr}
 use Rattle.std.proofs.lemmas.Bool.{cases_Bool, cond-true, cond-false}
 use Rattle.eq_model.specs.System.{Values, Driver, input, undriven, equation, register, System, IsSystem, IsDriver, IsHeld, IsInput, Meets, Begins, Follows, IsLoopFree, Solves, IsInitial, Agree, Cycle, rounds, nothing}
-use Rattle.eq_model.specs.Run.{Design, Given, Run, HasOneRun}
+use Rattle.eq_model.specs.Run.{Design, Given, Run, HasOneRun, key}
 use Rattle.eq_model.proofs.Cycle.{rounds_solve, one_cycle}
 
 -- v solves n cycles: the inputs and the cut bits have the values of u in each cycle, and the registers in the first
@@ -201,7 +201,7 @@ module _ (s : System) (cut : ℕ → Bool) (u : ℕ → Values) where
 
 -- the inputs of a run, by bit
 abbrev pub by_bit : Design → Given → ℕ → Values
-by_bit d given c b = given c (d.key b)
+by_bit d given c b = given c (key d b)
 
 pub run_is_trace : (d : Design) (given : Given) (n : ℕ) (v : ℕ → Values) → Run d given n v → InitialTrace d.system nothing (by_bit d given) n v
 run_is_trace d given n v run = record {

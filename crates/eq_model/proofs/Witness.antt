@@ -3,7 +3,8 @@ use Rattle.std.proofs.Common.{◌≡◌, ◌≢◌, ℕ, suc, ◌<◌, ◌-◌, 
 use Rattle.std.specs.List.{list_any}
 use Rattle.std.proofs.lemmas.Bool.{or_cases}
 use Rattle.eq_model.specs.System.{Values, System, IsSystem, IsLoopFree, nothing}
-use Rattle.eq_model.specs.Run.{Design, is_output, Given, Equivalent}
+use Rattle.eq_model.specs.Run.{Design, Given, Equivalent, key, dir}
+use Rattle.eq_model.specs.Nets.{is_output}
 use Rattle.eq_model.specs.Plan.{Plan, gate_value}
 use Rattle.eq_model.specs.Cut.{is_cut, CutRun, IsFromInitial, Differ, Same, Base, Step, Never}
 use Rattle.eq_model.proofs.Places.{same_number}
@@ -18,7 +19,7 @@ module _ (gold gate : Design) (gold_sound : IsSystem gold.system) (gate_sound : 
   abbrev gate_values : ℕ → Values
   gate_values = initial_trace gate.system nothing (by_bit gate given) gate_sound gate_free
 
-  pub refuted : (c a b : ℕ) → a < gold.bits → b < gate.bits → gold.dir a ≡ is_output → gate.dir b ≡ is_output → gold.key a ≡ gate.key b →
+  pub refuted : (c a b : ℕ) → a < gold.bits → b < gate.bits → dir gold a ≡ is_output → dir gate b ≡ is_output → key gold a ≡ key gate b →
       gold_values c a ≢ gate_values c b → Equivalent gold gate → ⊥
   refuted c a b la lb da db key ne e = ne (e.outputs given (suc c) gold_values gate_values
       (trace_is_run gold given (suc c) gold_values (is_initial_trace gold.system nothing (by_bit gold given) gold_sound gold_free (suc c)))

@@ -24,10 +24,7 @@ pub record SameSystem (s t : System) : Type 0 where
 -- the two designs agree in every point. How an expression is written isn't one
 pub record SameDesign (d e : Design) : Type 0 where
   pub system : SameSystem d.system e.system
-  pub keys : (b : ℕ) → b < d.bits → d.key b ≡ e.key b
-  pub dirs : (b : ℕ) → b < d.bits → d.dir b ≡ e.dir b
-  pub ranges : (b : ℕ) → b < d.bits → d.range b ≡ e.range b
-  pub automatic : (b : ℕ) → b < d.bits → d.automatic b ≡ e.automatic b
+  pub nets : d.nets ≡ e.nets
   pub ports : d.ports ≡ e.ports
   pub clock : d.clock ≡ e.clock
   pub copies : (b : ℕ) → b < d.bits → d.copy_of b ≡ e.copy_of b

@@ -17,20 +17,24 @@ is_cut pairs side inside b = any_below pairs (λ i. (side i == b) && not (inside
 
 -- values of both systems over n cycles, n being 1 or more, from any values of the registers. Each driver is met but those
 -- of the paired bits outside, which are free but have the same value on both sides, opposite ones in an inverted pair
-pub record CutRun (gold gate : System) (p : Plan) (inside : ℕ → Bool) (n : ℕ) (v w : ℕ → Values) : Type 0 where
+pub record CutRun (gold gate : System) (p : Plan) (inside : ℕ → Bool) (n : ℕ) (v w : ℕ →
+    Values) : Type 0 where
   pub some : 0 < n
   pub gold_solves : Solves gold (is_cut p.pairs p.gold inside) n v
   pub gate_solves : Solves gate (is_cut p.pairs p.gate inside) n w
-  pub equal : (c i : ℕ) → c < n → i < p.pairs → inside i ≡ false → v c (p.gold i) ≡ gate_value p i (w c)
+  pub equal : (c i : ℕ) → c < n → i < p.pairs → inside i ≡ false →
+      v c (p.gold i) ≡ gate_value p i (w c)
 
 -- the registers that aren't cut begin at their initial values
-pub record IsFromInitial (gold gate : System) (p : Plan) (inside : ℕ → Bool) (v w : ℕ → Values) : Type 0 where
+pub record IsFromInitial (gold gate : System) (p : Plan) (inside : ℕ → Bool) (v w : ℕ →
+    Values) : Type 0 where
   pub gold_begins : IsInitial gold (is_cut p.pairs p.gold inside) (v 0)
   pub gate_begins : IsInitial gate (is_cut p.pairs p.gate inside) (w 0)
 
 -- in a cycle some output of the partition differs: the two bits of a plain pair, or the one and the other's complement
 abbrev pub Differ : Plan → (ℕ → Bool) → Values → Values → Type 0
-Differ p inside v w = (i : ℕ) × (i < p.pairs) × (inside i ≡ true) × (v (p.gold i) ≢ gate_value p i w)
+Differ p inside v w = (i : ℕ) × (i < p.pairs) × (inside i ≡ true) ×
+    (v (p.gold i) ≢ gate_value p i w)
 
 -- in a cycle no output of the partition differs
 abbrev pub Same : Plan → (ℕ → Bool) → Values → Values → Type 0
@@ -54,5 +58,6 @@ pub record Step (gold gate : System) (p : Plan) (inside : ℕ → Bool) (k : ℕ
 
 -- no cut run from the initial values, of any length, differs in any cycle
 abbrev pub Never : System → System → Plan → (ℕ → Bool) → Type 0
-Never gold gate p inside = (n : ℕ) (v w : ℕ → Values) → CutRun gold gate p inside n v w → IsFromInitial gold gate p inside v w →
+Never gold gate p inside = (n : ℕ) (v w : ℕ → Values) → CutRun gold gate p inside n v w →
+    IsFromInitial gold gate p inside v w →
     (c : ℕ) → c < n → Differ p inside (v c) (w c) → ⊥

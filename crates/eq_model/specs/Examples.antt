@@ -10,7 +10,8 @@ conjunction = input_port ∷ input_port ∷ output_port (and_gate (wire 0) (wire
 
 -- the same with y = ~(~a | ~b)
 abbrev pub de_morgan : List Signal
-de_morgan = input_port ∷ input_port ∷ output_port (inverter (or_gate (inverter (wire 0)) (inverter (wire 1)))) ∷ []
+de_morgan = input_port ∷ input_port ∷
+    output_port (inverter (or_gate (inverter (wire 0)) (inverter (wire 1)))) ∷ []
 
 -- the same with y = a | b
 abbrev pub disjunction : List Signal
@@ -22,11 +23,13 @@ ring = output_port (wire 1) ∷ inner_wire (wire 0) ∷ []
 
 -- input x (0), outputs p (1) and q (2): p = x & (x | q), q = x
 abbrev pub p_reads_q : List Signal
-p_reads_q = input_port ∷ output_port (and_gate (wire 0) (or_gate (wire 0) (wire 2))) ∷ output_port (wire 0) ∷ []
+p_reads_q = input_port ∷ output_port (and_gate (wire 0) (or_gate (wire 0) (wire 2))) ∷
+    output_port (wire 0) ∷ []
 
 -- the same with p = x, q = x | (x & p)
 abbrev pub q_reads_p : List Signal
-q_reads_p = input_port ∷ output_port (wire 0) ∷ output_port (or_gate (wire 0) (and_gate (wire 0) (wire 1))) ∷ []
+q_reads_p = input_port ∷ output_port (wire 0) ∷
+    output_port (or_gate (wire 0) (and_gate (wire 0) (wire 1))) ∷ []
 
 -- all signals paired, with the partitions p and q
 abbrev pub apart : Plan
@@ -63,7 +66,8 @@ inner_left_out = plan_of reads_inner 3 plain ((1 ∷ []) ∷ [])
 -- output y (0), a counter of two bits (1 and 2) that begins at 0: y tells that it is at 2
 abbrev pub counter : List Signal
 counter =
-    output_port (and_gate (wire 2) (inverter (wire 1))) ∷ inner_register false (inverter (wire 1)) ∷ inner_register false (xor_gate (wire 2) (wire 1)) ∷ []
+    output_port (and_gate (wire 2) (inverter (wire 1))) ∷ inner_register false (inverter (wire 1)) ∷
+    inner_register false (xor_gate (wire 2) (wire 1)) ∷ []
 
 -- output y (0): y = 0
 abbrev pub silence : List Signal
@@ -87,7 +91,8 @@ ports_only = plan_of gated 2 plain ((1 ∷ []) ∷ [])
 
 -- output y (0), registers s (1) and t (2) that begin at 1 and 0: y = s, s follows t, and t follows t ^ s
 abbrev pub feedback : List Signal
-feedback = output_port (wire 1) ∷ inner_register true (wire 2) ∷ inner_register false (xor_gate (wire 2) (wire 1)) ∷ []
+feedback = output_port (wire 1) ∷ inner_register true (wire 2) ∷
+    inner_register false (xor_gate (wire 2) (wire 1)) ∷ []
 
 -- input a (0), output y (1), a register r (2) that begins at 0 and follows r ^ a: y = r
 abbrev pub toggle : List Signal
@@ -95,7 +100,8 @@ toggle = input_port ∷ output_port (wire 2) ∷ inner_register false (xor_gate 
 
 -- the same with a register m that begins at 1, and y = ~m
 abbrev pub complement_toggle : List Signal
-complement_toggle = input_port ∷ output_port (inverter (wire 2)) ∷ inner_register true (xor_gate (wire 2) (wire 0)) ∷ []
+complement_toggle = input_port ∷ output_port (inverter (wire 2)) ∷
+    inner_register true (xor_gate (wire 2) (wire 0)) ∷ []
 
 -- r and m are an inverted pair
 abbrev pub register_pair : ℕ → Bool
@@ -112,7 +118,8 @@ not_complements = plan_of toggle 3 plain ((1 ∷ []) ∷ (2 ∷ []) ∷ [])
 -- the part of the partition y of `complements`: the input r (node 0), gold's y (1), m, which is ~r (2), and gate's y (3)
 abbrev pub output_part : Part
 output_part = record {
-  system = (design (input_port ∷ output_port (wire 0) ∷ inner_wire (inverter (wire 0)) ∷ inner_wire (inverter (wire 2)) ∷ [])).system;
+  system = (design (input_port ∷ output_port (wire 0) ∷ inner_wire (inverter (wire 0)) ∷
+      inner_wire (inverter (wire 2)) ∷ [])).system;
   inputs = 1;
   number = λ b. 0;
   outputs = 1;
@@ -124,7 +131,9 @@ output_part = record {
 abbrev pub register_part : Part
 register_part = record {
   system =
-      (design (input_port ∷ inner_register false (xor_gate (wire 1) (wire 0)) ∷ inner_register true (xor_gate (wire 2) (wire 0)) ∷ inner_wire (inverter (wire 2)) ∷ [])).system;
+      (design (input_port ∷ inner_register false (xor_gate (wire 1) (wire 0)) ∷
+      inner_register true (xor_gate (wire 2) (wire 0)) ∷ inner_wire (inverter (wire 2)) ∷
+      [])).system;
   inputs = 1;
   number = λ b. 0;
   outputs = 1;

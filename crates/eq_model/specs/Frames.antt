@@ -19,4 +19,5 @@ pub record AreFrames (bits n : ℕ) (vs : List (List Bool)) : Type 0 where
 -- exactly one list of frames is a run
 pub record HasOneList (d : Design) (given : Given) (n : ℕ) : Type 0 where
   pub some : (vs : List (List Bool)) × AreFrames d.bits n vs × Run d given n (frames vs)
-  pub only : (vs ws : List (List Bool)) → AreFrames d.bits n vs → AreFrames d.bits n ws → Run d given n (frames vs) → Run d given n (frames ws) → vs ≡ ws
+  pub only : (vs ws : List (List Bool)) → AreFrames d.bits n vs → AreFrames d.bits n ws →
+      Run d given n (frames vs) → Run d given n (frames ws) → vs ≡ ws

@@ -17,9 +17,12 @@ InnerComputes g n own x = (m : ℕ) → m < g.bits → is_own n own m ≡ false 
 -- value, 0 where there is no driver
 abbrev pub DrivesNode : System → ℕ → (ℕ → ℕ) → Driver → Driver → Type 0
 DrivesNode g n own input input = Unit {0}
-DrivesNode g n own undriven (equation f) = (x : Values) → InnerComputes g n own x → f.value x ≡ false
-DrivesNode g n own (equation e) (equation f) = (x : Values) → InnerComputes g n own x → f.value x ≡ e.value (λ b. x (own b))
-DrivesNode g n own (register i e) (register j f) = (i ≡ j) × ((x : Values) → InnerComputes g n own x → f.value x ≡ e.value (λ b. x (own b)))
+DrivesNode g n own undriven (equation f) = (x : Values) → InnerComputes g n own x →
+    f.value x ≡ false
+DrivesNode g n own (equation e) (equation f) = (x : Values) → InnerComputes g n own x →
+    f.value x ≡ e.value (λ b. x (own b))
+DrivesNode g n own (register i e) (register j f) = (i ≡ j) ×
+    ((x : Values) → InnerComputes g n own x → f.value x ≡ e.value (λ b. x (own b)))
 DrivesNode g n own _ _ = ⊥
 
 -- g follows the drivers of s

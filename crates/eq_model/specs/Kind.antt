@@ -18,5 +18,6 @@ GoesOn base step k = (j : ℕ) → 1 ≤ j → j < k → (base j → ⊥) × ste
 -- at each k, fail where the base query holds, else proved where the step query doesn't hold, else go on to the next
 abbrev pub IsKind : (ℕ → Type 0) → (ℕ → Type 0) → ℕ → Kind → Type 0
 IsKind base step depth (fail k) = (1 ≤ k) × (k ≤ depth) × GoesOn base step k × base k
-IsKind base step depth (proved k) = (1 ≤ k) × (k ≤ depth) × GoesOn base step k × (base k → ⊥) × (step k → ⊥)
+IsKind base step depth (proved k) = (1 ≤ k) × (k ≤ depth) × GoesOn base step k × (base k → ⊥) ×
+    (step k → ⊥)
 IsKind base step depth deep = GoesOn base step (suc depth)

@@ -1,4 +1,5 @@
 pub mod System
+pub mod Nets
 pub mod Run
 pub mod Frames
 pub mod Combinational
@@ -12,3 +13,7 @@ pub mod Copying
 pub mod Graph
 pub mod Table
 pub mod Examples
+pub mod DesignExamples
+pub mod EquivalenceExamples
+pub mod PlanExamples
+pub mod PartExamples

@@ -1,7 +1,7 @@
 -- Parts: small systems of their own, each with numbered inputs and with pairs of nodes that are to be equal. Both sides of
 -- a comparison stand in one part and share its inputs (a miter: D. Brand, "Verification of large synthesized designs", 1993).
-use Rattle.std.specs.Prelude.{◌≡◌, ◌≢◌, ℕ, suc, ◌<◌, ◌-◌, Bool, List, [], ◌∷◌, Contains, ◌⊎◌}
-use Rattle.eq_model.specs.System.{Values, Driver, input, undriven, equation, register, System, IsSystem, IsInput, IsInitial, Reads, Solves, nothing}
+use Rattle.std.specs.Prelude.{◌≡◌, ◌≢◌, ℕ, suc, ◌<◌, ◌-◌, Bool, true, List, [], ◌∷◌, ◌⊎◌}
+use Rattle.eq_model.specs.System.{Values, System, IsSystem, IsInput, IsInitial, Reads, ReadsEver, Solves, Agree, is_register, nothing}
 
 -- a system of nodes. An input node stands for the input of its number, and each output has a gold and a gate node
 pub record Part : Type 0 where
@@ -19,26 +19,22 @@ pub record IsPart (t : Part) : Type 0 where
   pub ordered : (a b : ℕ) → a < t.bits → Reads t.system a b → b < a
   pub numbers : (b : ℕ) → b < t.bits → IsInput (t.driver b) → t.number b < t.inputs
   -- an input has one node at most, so that all input nodes can be chosen apart
-  pub one_node : (a b : ℕ) → a < t.bits → b < t.bits → IsInput (t.driver a) → IsInput (t.driver b) → t.number a ≡ t.number b → a ≡ b
+  pub one_node : (a b : ℕ) → a < t.bits → b < t.bits → IsInput (t.driver a) → IsInput (t.driver b) →
+      t.number a ≡ t.number b → a ≡ b
   pub gold_nodes : (o : ℕ) → o < t.outputs → t.gold o < t.bits
   pub gate_nodes : (o : ℕ) → o < t.outputs → t.gate o < t.bits
-
--- the nodes that a node reads, within a cycle or at its end
-abbrev pub reads_ever : Driver → List ℕ
-reads_ever input = []
-reads_ever undriven = []
-reads_ever (equation e) = e.reads
-reads_ever (register init e) = e.reads
 
 -- node a is b, or leads to b by the nodes that a node reads, one after another
 abbrev pub LeadsTo : Part → ℕ → List ℕ → ℕ → Type 0
 LeadsTo t a [] b = a ≡ b
-LeadsTo t a (c ∷ cs) b = Contains (reads_ever (t.driver a)) c × LeadsTo t c cs b
+LeadsTo t a (c ∷ cs) b = ReadsEver t.system a c × LeadsTo t c cs b
 
 -- nothing in the part is idle: an output leads to each node, and each input has a node
 pub record IsTrim (t : Part) : Type 0 where
-  pub reached : (b : ℕ) → b < t.bits → (o : ℕ) × (cs : List ℕ) × (o < t.outputs) × (LeadsTo t (t.gold o) cs b ⊎ LeadsTo t (t.gate o) cs b)
-  pub named : (k : ℕ) → k < t.inputs → (b : ℕ) × (b < t.bits) × IsInput (t.driver b) × (t.number b ≡ k)
+  pub reached : (b : ℕ) → b < t.bits → (o : ℕ) × (cs : List ℕ) × (o < t.outputs) ×
+      (LeadsTo t (t.gold o) cs b ⊎ LeadsTo t (t.gate o) cs b)
+  pub named : (k : ℕ) → k < t.inputs → (b : ℕ) × (b < t.bits) × IsInput (t.driver b) ×
+      (t.number b ≡ k)
 
 -- values of the nodes over n cycles, from any values of the registers, for these inputs by cycle and number
 pub record PartRun (t : Part) (given : ℕ → ℕ → Bool) (n : ℕ) (x : ℕ → Values) : Type 0 where
@@ -53,8 +49,21 @@ PartDiffer t x = (o : ℕ) × (o < t.outputs) × (x (t.gold o) ≢ x (t.gate o))
 abbrev pub PartSame : Part → Values → Type 0
 PartSame t x = (o : ℕ) → o < t.outputs → x (t.gold o) ≡ x (t.gate o)
 
--- some run of k cycles from the initial values differs in its last cycle
+-- a run whose registers begin at these values
+pub record PartRunFrom (t : Part) (given : ℕ → ℕ → Bool) (state : Values) (n : ℕ) (x : ℕ →
+    Values) : Type 0 where
+  pub run : PartRun t given n x
+  pub begins : 0 < n → (b : ℕ) → b < t.bits → is_register (t.driver b) ≡ true → x 0 b ≡ state b
+
+-- there is a run for these inputs and first values of the registers, and any two have the same values
+pub record HasOnePartRun (t : Part) (given : ℕ → ℕ → Bool) (state : Values) (n : ℕ) : Type 0 where
+  pub some : (x : ℕ → Values) × PartRunFrom t given state n x
+  pub only : (x y : ℕ → Values) → PartRunFrom t given state n x → PartRunFrom t given state n y →
+      Agree t.system n x y
+
+-- some run of k cycles, k being 1 or more, from the initial values differs in its last cycle
 pub record PartBase (t : Part) (k : ℕ) : Type 0 where
+  pub some : 0 < k
   pub given : ℕ → ℕ → Bool
   pub x : ℕ → Values
   pub run : PartRun t given k x

@@ -4,7 +4,8 @@
 -- cuts and heaps", 1997).
 use Rattle.std.specs.Prelude.{◌≡◌, ℕ, ◌<◌, Bool, true, false, not, ◌↔◌}
 use Rattle.eq_model.specs.System.{Values, System}
-use Rattle.eq_model.specs.Run.{Design, is_input, IsPort}
+use Rattle.eq_model.specs.Run.{Design, key, dir}
+use Rattle.eq_model.specs.Nets.{is_input, IsPort}
 
 -- pairs of a gold bit and a gate bit, by number, and partitions of them. An inverted pair joins a signal with its
 -- complement. A partition is known by the pairs that it holds, which are its outputs
@@ -35,7 +36,8 @@ pub record IsOneToOne (gold gate : System) (p : Plan) : Type 0 where
 
 -- each port bit of one design is paired with a port bit of the other of the same name and place
 abbrev pub PairsPorts : Design → Design → ℕ → (ℕ → ℕ) → (ℕ → ℕ) → Type 0
-PairsPorts s t pairs here there = (a : ℕ) → a < s.bits → IsPort (s.dir a) → (i : ℕ) × (i < pairs) × (here i ≡ a) × IsPort (t.dir (there i)) × (t.key (there i) ≡ s.key a)
+PairsPorts s t pairs here there = (a : ℕ) → a < s.bits → IsPort (dir s a) → (i : ℕ) × (i < pairs) ×
+    (here i ≡ a) × IsPort (dir t (there i)) × (key t (there i) ≡ key s a)
 
 -- the plan is one of these two designs, and leaves nothing out
 pub record Covers (gold gate : Design) (p : Plan) : Type 0 where
@@ -43,11 +45,12 @@ pub record Covers (gold gate : Design) (p : Plan) : Type 0 where
   -- all ports are paired by name and place, and by plain pairs
   pub gold_ports : PairsPorts gold gate p.pairs p.gold p.gate
   pub gate_ports : PairsPorts gate gold p.pairs p.gate p.gold
-  pub plain_ports : (i : ℕ) → i < p.pairs → IsPort (gold.dir (p.gold i)) → p.inverted i ≡ false
+  pub plain_ports : (i : ℕ) → i < p.pairs → IsPort (dir gold (p.gold i)) → p.inverted i ≡ false
   -- an input is paired with an input, and these pairs are marked
-  pub gold_inputs : (i : ℕ) → i < p.pairs → (p.input i ≡ true) ↔ (gold.dir (p.gold i) ≡ is_input)
-  pub gate_inputs : (i : ℕ) → i < p.pairs → (p.input i ≡ true) ↔ (gate.dir (p.gate i) ≡ is_input)
+  pub gold_inputs : (i : ℕ) → i < p.pairs → (p.input i ≡ true) ↔ (dir gold (p.gold i) ≡ is_input)
+  pub gate_inputs : (i : ℕ) → i < p.pairs → (p.input i ≡ true) ↔ (dir gate (p.gate i) ≡ is_input)
   -- each other pair stands in exactly one partition, and a partition holds such pairs alone, at least one
-  pub in_one : (i : ℕ) → i < p.pairs → p.input i ≡ false → (q : ℕ) × (q < p.parts) × (p.holds q i ≡ true) × ((r : ℕ) → r < p.parts → p.holds r i ≡ true → r ≡ q)
+  pub in_one : (i : ℕ) → i < p.pairs → p.input i ≡ false → (q : ℕ) × (q < p.parts) ×
+      (p.holds q i ≡ true) × ((r : ℕ) → r < p.parts → p.holds r i ≡ true → r ≡ q)
   pub in_pairs : (q i : ℕ) → q < p.parts → p.holds q i ≡ true → (i < p.pairs) × (p.input i ≡ false)
   pub some_held : (q : ℕ) → q < p.parts → (i : ℕ) × (p.holds q i ≡ true)

@@ -41,6 +41,13 @@ IsHeld undriven = ⊥
 IsHeld (equation e) = ⊥
 IsHeld (register init e) = Unit {0}
 
+-- the bit's value comes from the cycle before
+abbrev pub is_register : Driver → Bool
+is_register input = false
+is_register undriven = false
+is_register (equation e) = false
+is_register (register init e) = true
+
 -- what is read are bits of the system, and the value depends on them alone
 pub record IsExpr (bits : ℕ) (e : Expr) : Type 0 where
   pub bounded : (b : ℕ) → Contains e.reads b → b < bits
@@ -69,6 +76,17 @@ reads_now (register init e) = []
 -- bit a reads bit b within a cycle
 abbrev pub Reads : System → ℕ → ℕ → Type 0
 Reads s a b = Contains (reads_now (s.driver a)) b
+
+-- the bits that a driver reads, within a cycle or at its end
+abbrev pub reads_ever : Driver → List ℕ
+reads_ever input = []
+reads_ever undriven = []
+reads_ever (equation e) = e.reads
+reads_ever (register init e) = e.reads
+
+-- bit a reads bit b, within a cycle or at its end
+abbrev pub ReadsEver : System → ℕ → ℕ → Type 0
+ReadsEver s a b = Contains (reads_ever (s.driver a)) b
 
 -- a chain of reads within a cycle: a reads the first of the bits between, each of these the next, and the last reads b
 abbrev pub IsChain : System → ℕ → List ℕ → ℕ → Type 0
@@ -120,7 +138,8 @@ nothing b = false
 -- over n cycles each bit that isn't cut meets its driver. Nothing is said of the registers' first values
 pub record Solves (s : System) (cut : ℕ → Bool) (n : ℕ) (v : ℕ → Values) : Type 0 where
   pub now : (c b : ℕ) → c < n → b < s.bits → cut b ≡ false → Meets (s.driver b) (v c) (v c b)
-  pub next : (c b : ℕ) → suc c < n → b < s.bits → cut b ≡ false → Follows (s.driver b) (v c) (v (suc c) b)
+  pub next : (c b : ℕ) → suc c < n → b < s.bits → cut b ≡ false →
+      Follows (s.driver b) (v c) (v (suc c) b)
 
 -- each register that isn't cut has its initial value, v being the first cycle's values
 abbrev pub IsInitial : System → (ℕ → Bool) → Values → Type 0

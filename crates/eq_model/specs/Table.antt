@@ -1,8 +1,9 @@
 -- Small designs written as tables, for examples: one signal of one bit a line, known by its number.
 use Rattle.std.specs.Prelude.{ℕ, suc, Bool, true, false, not, ◌&&◌, ◌||◌, ◌==◌, List, [], ◌∷◌, ◌++◌, length, slice_index_or, None}
 use Rattle.std.specs.List.{list_any}
-use Rattle.eq_model.specs.System.{Values, Expr, Driver, input, equation, register}
-use Rattle.eq_model.specs.Run.{Dir, inner, is_input, is_output, NetName, Design, Equivalent}
+use Rattle.eq_model.specs.System.{Values, Expr, Driver, input, undriven, equation, register}
+use Rattle.eq_model.specs.Run.{Design, Equivalent}
+use Rattle.eq_model.specs.Nets.{Dir, inner, is_input, is_output, NetName, Net}
 use Rattle.eq_model.specs.Plan.{Plan, Covers}
 use Rattle.eq_model.specs.Cut.{Base, Step, Never}
 use Rattle.eq_model.specs.Kind.{Kind, IsKind}
@@ -44,24 +45,27 @@ value_of (xor_gate g h) v = exclusive_or (value_of g v) (value_of h v)
 abbrev pub expr_of : Gate → Expr
 expr_of g = record { reads = reads_of g; value = value_of g }
 
--- a line of a table
+-- a line of a table: a port, or an inner signal, which a circuit, a register or nothing drives
 pub data Signal : Type 0 where
   input_port : Signal
   output_port : Gate → Signal
   inner_wire : Gate → Signal
   inner_register : Bool → Gate → Signal
+  inner_open : Signal
 
 abbrev pub dir_of : Signal → Dir
 dir_of input_port = is_input
 dir_of (output_port g) = is_output
 dir_of (inner_wire g) = inner
 dir_of (inner_register init g) = inner
+dir_of inner_open = inner
 
 abbrev pub driver_of : Signal → Driver
 driver_of input_port = input
 driver_of (output_port g) = equation (expr_of g)
 driver_of (inner_wire g) = equation (expr_of g)
 driver_of (inner_register init g) = register init (expr_of g)
+driver_of inner_open = undriven
 
 abbrev pub signal_at : List Signal → ℕ → Signal
 signal_at lines b = slice_index_or lines b (inner_wire low)
@@ -72,24 +76,34 @@ is_port input_port = true
 is_port (output_port g) = true
 is_port (inner_wire g) = false
 is_port (inner_register init g) = false
+is_port inner_open = false
 
--- the names of the ports, the first line having number k
-abbrev pub port_names : ℕ → List Signal → List NetName
-port_names k [] = []
-port_names k (input_port ∷ lines) = (k ∷ []) ∷ port_names (suc k) lines
-port_names k (output_port g ∷ lines) = (k ∷ []) ∷ port_names (suc k) lines
-port_names k (inner_wire g ∷ lines) = port_names (suc k) lines
-port_names k (inner_register init g ∷ lines) = port_names (suc k) lines
+-- the net of a line. A signal is a scalar, and its name is its number
+abbrev pub net_of_line : ℕ → Signal → Net
+net_of_line k s = record { name = k ∷ []; range = None; dir = dir_of s; automatic = false }
 
--- the design of a table. A signal's name is its number
+-- the nets of lines, the first line having number k
+abbrev pub nets_of_lines : ℕ → List Signal → List Net
+nets_of_lines k [] = []
+nets_of_lines k (s ∷ lines) = net_of_line k s ∷ nets_of_lines (suc k) lines
+
+-- a port's name before other names
+abbrev pub with_port : Dir → NetName → List NetName → List NetName
+with_port inner name names = names
+with_port is_input name names = name ∷ names
+with_port is_output name names = name ∷ names
+
+-- the names of the nets that are ports, in order
+abbrev pub port_names : List Net → List NetName
+port_names [] = []
+port_names (n ∷ ns) = with_port n.dir n.name (port_names ns)
+
+-- the design of a table
 abbrev pub design : List Signal → Design
 design lines = record {
   system = record { bits = length lines; driver = λ b. driver_of (signal_at lines b) };
-  key = λ b. (b ∷ [], 0);
-  dir = λ b. dir_of (signal_at lines b);
-  range = λ b. None;
-  automatic = λ b. false;
-  ports = port_names 0 lines;
+  nets = nets_of_lines 0 lines;
+  ports = port_names (nets_of_lines 0 lines);
   clock = None;
   copy_of = λ b. None;
 }
@@ -100,6 +114,7 @@ is_input_port input_port = true
 is_input_port (output_port g) = false
 is_input_port (inner_wire g) = false
 is_input_port (inner_register init g) = false
+is_input_port inner_open = false
 
 -- the plan that pairs the first n signals of two tables, each with that of its number, with the partitions given by lists
 -- of numbers

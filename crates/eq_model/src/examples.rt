@@ -1,11 +1,31 @@
 //! Small designs on which the definitions are tried, each with its answers. A design is a table of signals of one bit, and
 //! stands in `specs/Examples.antt`.
+//!
+//! - here: whole comparisons, by composition and induction.
+//! - `designs`: nets by position, what is a design, and what doesn't agree.
+//! - `equivalence`: what isn't equivalent.
+//! - `plans`: what covers and what doesn't.
+//! - `parts`: what doesn't denote a partition, and the graphs of a system.
+
+mod designs;
+mod equivalence;
+mod parts;
+mod plans;
+
 ghost use Rattle.std.specs.Prelude.{ℕ, ◌<◌, ◌≤◌};
 ghost use Rattle.eq_model.specs.System.{Values, Reads, IsLoopFree, HasOneCycle, nothing};
 ghost use Rattle.eq_model.specs.Agreement.{SameDesign};
 ghost use Rattle.eq_model.specs.Kind.{fail, proved, deep};
 ghost use Rattle.eq_model.specs.Table.{design, EquivalentTables, CoversTables, NeverDiffers, DiffersAfter, Answers, DenotesPartition};
 ghost use Rattle.eq_model.specs.Examples.{conjunction, de_morgan, disjunction, ring, p_reads_q, q_reads_p, apart, doubled, reads_both, reads_inner, reads_inverted, inner_cut, inner_left_out, counter, silence, output_only, gated, gated_silence, ports_only, feedback, toggle, complement_toggle, complements, not_complements, output_part, register_part};
+
+pub use designs::{nets_by_position, nets_of_a_design, nets_of_no_design, one_point_apart};
+pub use equivalence::{
+    bit_that_negates_itself, inputs_of_one_name, output_of_a_change, ports_that_differ,
+    ring_beside_an_output,
+};
+pub use parts::{graph_with_a_shared_node, parts_that_do_not_denote};
+pub use plans::{plans_that_do_not_cover, ports_in_another_order, unpaired_inner_bits};
 
 /// `y = a & b` and `y = ~(~a | ~b)` agree and are equivalent; `y = a & b` and `y = a | b` are not.
 pub fn two_gates()
@@ -67,14 +87,16 @@ pub fn gated_register()
 /// Two registers in a feedback shift against themselves, with only the output paired: proved at k = 2, and not at 1, since
 /// the output tells the registers only after two cycles.
 pub fn feedback_register()
-    ensures proves { (depth : ℕ) → 2 ≤ depth → Answers feedback feedback output_only 0 depth (proved 2) }
+    ensures proves { (depth : ℕ) → 2 ≤ depth →
+        Answers feedback feedback output_only 0 depth (proved 2) }
     ensures unseen { Answers feedback feedback output_only 0 1 deep }
 {}
 
 /// A register and its complement are an inverted pair. By a plain pair their partition fails at once.
 pub fn inverted_pair()
     ensures covered { CoversTables toggle complement_toggle complements }
-    ensures proves { (depth : ℕ) → 1 ≤ depth → Answers toggle complement_toggle complements 1 depth (proved 1) }
+    ensures proves { (depth : ℕ) → 1 ≤ depth →
+        Answers toggle complement_toggle complements 1 depth (proved 1) }
     ensures equal { EquivalentTables toggle complement_toggle }
     ensures plain { DiffersAfter toggle complement_toggle not_complements 1 1 }
 {}

@@ -1,10 +1,23 @@
 use Rattle.eq_model.specs.Cut.{Base, Step}
 use Rattle.eq_model.proofs.Agreement.{back, system_back, is_design_same, loop_free_same, run_same, equivalent_same, covers_same, base_same, step_same, never_on, denotes_on}
+use Rattle.eq_model.proofs.AgreementOn.{system_on, design_on, bit_same}
 use Rattle.eq_model.proofs.Answer.{same_kind}
 use Rattle.eq_model.proofs.laws.agreement.Goals as goal
 
 pub returns-clause-symmetric : goal.returns-clause-symmetric
 returns-clause-symmetric c = back
+
+pub returns-clause-transitive : goal.returns-clause-transitive
+returns-clause-transitive c = design_on
+
+pub returns-clause-transitive_system : goal.returns-clause-transitive_system
+returns-clause-transitive_system c = system_on
+
+pub returns-clause-named : goal.returns-clause-named
+returns-clause-named c = bit_same
+
+pub returns-clause-told : goal.returns-clause-told
+returns-clause-told c = λ d e same. (same.nets, same.ports, same.clock)
 
 pub returns-clause-symmetric_system : goal.returns-clause-symmetric_system
 returns-clause-symmetric_system c = system_back

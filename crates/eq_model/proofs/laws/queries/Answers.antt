@@ -13,4 +13,4 @@ returns-clause-step c = same_step
 pub returns-clause-kind : goal.returns-clause-kind
 returns-clause-kind c = λ gold gate p inside t denotes depth x.
     same_kind (Base gold gate p inside) (Step gold gate p inside) (PartBase t) (PartStep t)
-    (same_base gold gate p inside t denotes) (same_step gold gate p inside t denotes) depth x
+    (λ k pos. same_base gold gate p inside t denotes k) (same_step gold gate p inside t denotes) depth x
