@@ -1,1 +1,9 @@
 pub mod Name
+pub mod Pieces
+pub mod Divisions
+pub mod Reading
+pub mod Brackets
+pub mod Patterns
+pub mod Tables
+pub mod Templates
+pub mod inner

@@ -1,6 +1,6 @@
 //! The bytes of a name.
 
-ghost use Rattle.std.specs.Prelude.{◌≡◌, ◌↔◌, [], ℕ, All, IsTrue, IfSome, IfNone, IfOk};
+ghost use Rattle.std.specs.Prelude.{◌≡◌, ◌≢◌, ◌↔◌, [], ℕ, All, IsTrue, IfSome, IfNone, IfOk};
 ghost use Rattle.eq_names.specs.Name.{IsNameByte, IsName, IsFirstBadByte};
 ghost use Rattle.eq_names.specs.declared.name.NameErr.TheVariants.{Memory as OutOfMemory};
 
@@ -59,7 +59,39 @@ fn first_bad_byte(text: &[u8]) -> Option<usize>
     text.iter().position(|byte| !is_name_byte(*byte))
 }
 
+/// Whether all bytes of a text may stand in a name.
+pub fn are_name_bytes(text: &[u8]) -> bool
+    ensures { IsTrue result ↔ All IsNameByte text.now }
+{
+    match first_bad_byte(text) {
+        Some(_at) => false,
+        None => true,
+    }
+}
+
 impl Name {
+    /// The name of bytes that are known to be one.
+    pub(crate) fn of(alloc: Global, text: &[u8]) -> Result<Name, Memory>
+        requires { IsName text.now }
+        ensures { IfOk result (λ name. name ≡ text.now) }
+    {
+        Ok(Name {
+            text: Vec::from_slice(alloc, text)?,
+        })
+    }
+
+    /// The name that has these bytes; None where there are none.
+    pub(crate) fn from_vec(text: Vec<u8>) -> Option<Name>
+        requires { All IsNameByte text.items }
+        ensures some { IfSome result (λ name. (name ≡ text.items) × (name ≢ [])) }
+        ensures none { IfNone result (text.items ≡ []) }
+    {
+        if text.as_slice().is_empty() {
+            return None;
+        }
+        Some(Name { text })
+    }
+
     /// Reads a whole text as one name.
     pub fn read(alloc: Global, text: &[u8]) -> Result<Name, NameErr>
         ensures ok { IfOk result (λ name. (name ≡ text.now) × IsName text.now) }
@@ -90,33 +122,5 @@ impl Name {
         Ok(Name {
             text: Vec::from_slice(alloc, &self.text)?,
         })
-    }
-}
-
-#[cfg(test)]
-mod tests {
-    use super::*;
-    use std::test::Fail;
-
-    #[test]
-    fn reads_names_and_names_their_faults(rt: HostRuntime) -> Result<(), Fail> {
-        let faults: [(&[u8], NameErr); 6] = [
-            (b"", NameErr::Empty),
-            (b" a", NameErr::BadByte { at: 0 }),
-            (b"a b", NameErr::BadByte { at: 1 }),
-            (b"ab\n", NameErr::BadByte { at: 2 }),
-            (b"a\x7F\x80", NameErr::BadByte { at: 1 }),
-            (b"\xC3\xA9", NameErr::BadByte { at: 0 }),
-        ];
-        for (text, fault) in faults {
-            assert_eq!(rt;
-                Name::read(rt.alloc(), text).err(),
-                Some(fault),
-                "in {text:?}"
-            );
-        }
-        let name = Name::read(rt.alloc(), b"!a~\\[3]")?;
-        assert_eq!(rt; name.copy(rt.alloc())?.bytes(), b"!a~\\[3]".as_slice());
-        Ok(())
     }
 }

@@ -1,0 +1,10 @@
+pub mod Fitting
+pub mod Greedy
+pub mod Stepping
+pub mod Wholes
+pub mod Answered
+pub mod Places
+pub mod PartLemmas
+pub mod CaptureLemmas
+pub mod Moving
+pub mod Distinct
