@@ -4,8 +4,13 @@ use Rattle.std.proofs.Math.ListN.{get_or-append}
 use Rattle.std.proofs.Math.Seq.{get_or-append_seam}
 use Rattle.std.proofs.lemmas.Bool.{cases_lt}
 use Rattle.eq_net.specs.declared.types.NetInfo.{NetInfo}
-use Rattle.eq_net.specs.Width.{width_of}
-use Rattle.eq_net.specs.Net.{bits_of, offset}
+use Rattle.eq_net.specs.Nets.{width_of}
+use Rattle.eq_net.specs.Net.{bits_of, net_at, offset}
+
+pub bit_there : (nets : List NetInfo) (k j : ℕ) → k < length nets → j < width_of (net_at nets k) → offset nets k + j < bits_of nets
+bit_there [] k j lk lj = absurd (omega arith)
+bit_there (n ∷ ns) zero j lk lj = omega arith
+bit_there (n ∷ ns) (suc k) j lk lj = (let there : offset ns k + j < bits_of ns = bit_there ns k j (omega arith) lj in omega arith)
 
 pub offset_zero : (nets : List NetInfo) → offset nets 0 ≡ 0
 offset_zero [] = refl
@@ -16,6 +21,7 @@ offset_suc [] k n lt e = absurd (omega arith)
 offset_suc (x ∷ xs) zero n lt e = (let f = offset_zero xs in let g = ap width_of e in omega arith)
 offset_suc (x ∷ xs) (suc k) n lt e = (let h = offset_suc xs k n (omega arith) e in omega arith)
 
+-- the next net begins where a net ends
 pub offset_next : (nets : List NetInfo) (k : ℕ) (n : NetInfo) → k < length nets → n ≡ slice_index_or nets k n → offset nets (k + 1) ≡ offset nets k + width_of n
 offset_next nets k n lt e = rw (add-one k) (offset_suc nets k n lt e)
 

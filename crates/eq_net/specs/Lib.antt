@@ -1,8 +1,14 @@
-pub mod Width
+pub mod Numbers
+pub mod Operators
+pub mod Automatic
+pub mod Nets
 pub mod Tree
 pub mod Meaning
 pub mod Net
 pub mod NetProp
-pub mod Stack
 pub mod Held
-pub mod Automatic
+pub mod Cycles
+pub mod Whole
+pub mod Samples
+pub mod Naming
+pub mod inner

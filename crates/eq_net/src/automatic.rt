@@ -20,26 +20,3 @@ pub fn is_automatic(name: &[u8]) -> bool
     let last = name.len() - 1;
     name[0] == b'_' && name[last] == b'_' && are_digits(&name[1..last])
 }
-
-#[cfg(test)]
-mod tests {
-    use super::*;
-
-    #[test]
-    fn knows_the_names_that_tools_make(rt: HostRuntime) {
-        let names: [(&[u8], bool); 9] = [
-            (b"_0_", true),
-            (b"_00_", true),
-            (b"_123_", true),
-            (b"__", false),
-            (b"_1", false),
-            (b"1_", false),
-            (b"_a_", false),
-            (b"_1_2_", false),
-            (b"", false),
-        ];
-        for (name, automatic) in names {
-            assert_eq!(rt; is_automatic(name), automatic, "{name:?}");
-        }
-    }
-}

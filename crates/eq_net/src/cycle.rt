@@ -1,17 +1,19 @@
 //! One cycle of a netlist.
 
-ghost use Rattle.std.specs.Prelude.{◌≡◌, ℕ, ◌+◌, ◌<◌, ◌≤◌, ◌^◌, [], false, true, Bool, IfOk, OnOk, length, slice_index_or};
-ghost use Rattle.eq_model.specs.Frames.{values};
+ghost use Rattle.std.specs.Prelude.{◌≡◌, ℕ, ◌<◌, ◌^◌, true, IfOk, length};
+ghost use Rattle.eq_model.specs.Frames.{frames, values};
 ghost use Rattle.eq_model.specs.System.{Values, Cycle, compute, nothing};
-ghost use Rattle.eq_net.specs.Held.{held_bits, input_count, initial_bits, register_count};
-ghost use Rattle.eq_net.specs.Net.{NamesWord, bits_of, nothing_read, number_of, source_of, system_of};
-ghost use Rattle.eq_net.specs.Meaning.{width};
-ghost use Rattle.eq_net.specs.Stack.{AreStarts, HasWords};
+ghost use Rattle.eq_net.specs.Held.{held_bits, initial_bits, input_count, next_bits, register_count};
+ghost use Rattle.eq_net.specs.Cycles.{IsStep};
+ghost use Rattle.eq_net.specs.Net.{NamesWord, bits_of, number_of, source_of, system_of};
 ghost use Rattle.eq_net.specs.Tree.{trees_of};
+ghost use Rattle.eq_net.specs.Whole.{parts_of};
+ghost use Rattle.eq_net.specs.inner.Sized.{AreStarts, HasWords};
 
 use crate::net::Net;
-use crate::types::{Driver, NetInfo};
-use crate::word::push_words;
+use crate::sweep::sweep_all;
+use crate::types::{Driver, NetInfo, WordBit};
+use crate::word::{evaluate_all, picked};
 use eq_base::{Bits, Memory};
 use eq_model::laws::{heights, one_cycle};
 use std::alloc::Global;
@@ -28,13 +30,52 @@ pub struct Stepped {
     pub next: State,
 }
 
-/// The state before the first cycle. There is no register yet, so it is empty.
+/// The registers' values in the first cycle.
 pub fn initial(alloc: Global, net: &Net) -> Result<State, Memory>
     ensures values { IfOk result (λ state. state ≡ initial_bits net.now.drivers) }
     ensures size { IfOk result (λ state. length state ≡ register_count net.now.drivers) }
 {
-    let _ = net;
-    Ok(State::new(alloc))
+    initial_values(alloc, net.drivers.as_slice())
+}
+
+fn initial_values(alloc: Global, drivers: &[Driver]) -> Result<State, Memory>
+    ensures { IfOk result (λ state. state ≡ initial_bits drivers.now) }
+{
+    let mut state = State::new(alloc);
+    for driver in drivers {
+        match driver {
+            Driver::Reg { init, .. } => state.push(*init)?,
+            Driver::Input => {}
+            Driver::Undriven => {}
+            Driver::Expr { .. } => {}
+        }
+    }
+    Ok(state)
+}
+
+/// The registers' next values, from the bits of all words.
+fn next_values(alloc: Global, drivers: &[Driver], words: &[Bits]) -> Result<State, Memory>
+    ensures { IfOk result (λ state. state ≡ next_bits (frames words.now) drivers.now) }
+{
+    let mut state = State::new(alloc);
+    for driver in drivers {
+        match driver {
+            Driver::Reg { word, bit, .. } => {
+                let next = picked(
+                    WordBit {
+                        word: *word,
+                        bit: *bit,
+                    },
+                    words,
+                );
+                state.push(next)?;
+            }
+            Driver::Input => {}
+            Driver::Undriven => {}
+            Driver::Expr { .. } => {}
+        }
+    }
+    Ok(state)
 }
 
 /// Where the bits of each net begin.
@@ -51,20 +92,32 @@ fn starts(alloc: Global, nets: &[NetInfo]) -> Result<Vec<u32>, Memory>
     Ok(starts)
 }
 
-/// Puts the input values in the places of their bits. All other bits are 0.
-fn held(alloc: Global, drivers: &[Driver], inputs: &[bool]) -> Result<Vec<bool>, Memory>
-    requires { length inputs.now ≡ input_count drivers.now }
-    ensures { IfOk result (λ held. held.items ≡ held_bits drivers.now inputs.now) }
+/// Puts the values of the registers and the inputs in the places of their bits. All other bits are 0.
+fn held(
+    alloc: Global,
+    drivers: &[Driver],
+    state: &[bool],
+    inputs: &[bool],
+) -> Result<Vec<bool>, Memory>
+    requires state { length state.now ≡ register_count drivers.now }
+    requires inputs { length inputs.now ≡ input_count drivers.now }
+    ensures { IfOk result (λ held. held.items ≡ held_bits drivers.now state.now inputs.now) }
 {
     let mut held = Vec::with_capacity(alloc, drivers.len())?;
-    let mut next = 0;
+    let mut register = 0;
+    let mut input = 0;
     for driver in drivers {
         let bit = match driver {
             Driver::Input => {
-                next += 1;
-                inputs[next - 1]
+                input += 1;
+                inputs[input - 1]
             }
+            Driver::Undriven => false,
             Driver::Expr { .. } => false,
+            Driver::Reg { .. } => {
+                register += 1;
+                state[register - 1]
+            }
         };
         held.push(bit)?;
     }
@@ -72,82 +125,94 @@ fn held(alloc: Global, drivers: &[Driver], inputs: &[bool]) -> Result<Vec<bool>,
 }
 
 /// What a driver gives its bit, which has the value `held` now, from the bits of all words.
-fn driven(driver: Driver, held: bool, net: &Net, begins: &[usize], stack: &[bool]) -> bool
-    requires named { NamesWord (trees_of net.now.words) driver }
-    requires begins { length begins.now ≡ length net.now.words }
-    requires within { (w : ℕ) → w < length net.now.words →
-        slice_index_or begins.now w 0 + width (slice_index_or (trees_of net.now.words) w nothing_read) ≤ length stack.now }
-    ensures { (v : Values) → HasWords v (number_of net.now.nets) (trees_of net.now.words) (length net.now.words) begins.now stack.now →
+fn driven(driver: Driver, held: bool, net: &Net, words: &[Bits]) -> bool
+    requires { NamesWord (trees_of net.now.words) driver }
+    ensures { (v : Values) → HasWords v (number_of net.now.nets) (trees_of net.now.words) (length net.now.words) words.now →
         result ≡ compute (source_of net.now.nets (trees_of net.now.words) driver) v held }
 {
     match driver {
         Driver::Input => held,
-        Driver::Expr { word, bit } => stack[begins[word as usize] + bit as usize],
+        Driver::Undriven => false,
+        Driver::Expr { word, bit } => picked(WordBit { word, bit }, words),
+        Driver::Reg { .. } => held,
     }
 }
 
-/// Gives each bit what its driver computes from the values `now`, whose words' bits are on the stack. Answers whether a
-/// value has changed.
-fn update(net: &Net, begins: &[usize], stack: &[bool], now: &mut [bool]) -> bool
-    requires bits { length now.old ≡ bits_of net.now.nets }
-    requires words { HasWords (values now.old) (number_of net.now.nets) (trees_of net.now.words) (length net.now.words) begins.now stack.now }
-    ensures computed { (b : ℕ) → b < bits_of net.now.nets → values now.new b ≡
-        compute ((system_of net.now.nets (trees_of net.now.words) net.now.drivers).driver b) (values now.old) (values now.old b) }
-    ensures unchanged { result ≡ false → (b : ℕ) → b < bits_of net.now.nets → values now.new b ≡ values now.old b }
+/// Whether each bit has what its driver computes.
+fn is_settled(net: &Net, words: &[Bits], now: &[bool]) -> bool
+    requires bits { length now.now ≡ bits_of net.now.nets }
+    requires words { HasWords (values now.now) (number_of net.now.nets) (trees_of net.now.words) (length net.now.words) words.now }
+    ensures { result ≡ true → (b : ℕ) → b < bits_of net.now.nets → values now.now b ≡
+        compute ((system_of (parts_of net.now)).driver b) (values now.now) (values now.now b) }
 {
-    let mut changed = false;
     for (b, driver) in net.drivers.as_slice().iter().enumerate() {
-        let bit = driven(*driver, now[b], net, begins, stack);
-        changed = changed | (bit != now[b]);
-        now[b] = bit;
+        if driven(*driver, now[b], net, words) != now[b] {
+            return false;
+        }
     }
-    changed
+    true
 }
 
-/// Gives all bits their values in one cycle, in which the inputs have the values that stand in `now`.
+/// Gives each bit what its driver computes from the values `now`, of which `words` has the bits of all words.
+fn update(net: &Net, words: &[Bits], now: &mut [bool])
+    requires bits { length now.old ≡ bits_of net.now.nets }
+    requires words { HasWords (values now.old) (number_of net.now.nets) (trees_of net.now.words) (length net.now.words) words.now }
+    ensures { (b : ℕ) → b < bits_of net.now.nets → values now.new b ≡
+        compute ((system_of (parts_of net.now)).driver b) (values now.old) (values now.old b) }
+{
+    for (b, driver) in net.drivers.as_slice().iter().enumerate() {
+        now[b] = driven(*driver, now[b], net, words);
+    }
+}
+
+/// Gives all bits their values in one cycle, in which the inputs and the registers have the values that stand in `now`.
+/// Answers the bits of all words.
 ///
-/// Rounds over all bits go on until none changes, at most one more than there are bits.
-fn solve(alloc: Global, net: &Net, now: &mut [bool]) -> Result<(), Memory>
+/// All words are evaluated once, each behind those that it reads. Rounds over all bits follow until none changes: the first
+/// one, where such an order was found, else at most one more than there are bits.
+fn solve(alloc: Global, net: &Net, now: &mut [bool]) -> Result<Vec<Bits>, Memory>
     requires { length now.old ≡ bits_of net.now.nets }
-    ensures { OnOk result (Cycle (system_of net.now.nets (trees_of net.now.words) net.now.drivers) nothing (values now.old) (values now.new)) }
+    ensures cycle { IfOk result (λ words. Cycle (system_of (parts_of net.now)) nothing (values now.old) (values now.new)) }
+    ensures words { IfOk result (λ words. HasWords (values now.new) (number_of net.now.nets) (trees_of net.now.words) (length net.now.words) words.items) }
 {
     one_cycle();
     heights();
     let starts = starts(alloc, net.nets.as_slice())?;
-    let mut begins = Vec::new(alloc);
-    let mut stack = Vec::new(alloc);
+    sweep_all(alloc, net, &starts, now)?;
     for _ in 0..net.drivers.len() + 1 {
-        begins.clear();
-        stack.clear();
-        push_words(
+        let words = evaluate_all(
+            alloc,
             net.words.as_slice(),
             net.nets.as_slice(),
             &starts,
             now,
-            &mut begins,
-            &mut stack,
         )?;
-        if !update(net, &begins, &stack, now) {
-            return Ok(());
+        if is_settled(net, &words, now) {
+            return Ok(words);
         }
+        update(net, &words, now);
     }
-    Ok(())
+    evaluate_all(
+        alloc,
+        net.words.as_slice(),
+        net.nets.as_slice(),
+        &starts,
+        now,
+    )
 }
 
-/// The values of all bits in one cycle, from the values of the registers and of the inputs, each in the order of the bits.
+/// The values of all bits in one cycle and the registers' next values, from the values of the registers and of the inputs,
+/// each in the order of the bits.
 pub fn step(alloc: Global, net: &Net, state: &State, inputs: &[bool]) -> Result<Stepped, Memory>
     requires state { length state.now ≡ register_count net.now.drivers }
     requires inputs { length inputs.now ≡ input_count net.now.drivers }
-    ensures size { IfOk result (λ stepped. length stepped.values ≡ bits_of net.now.nets) }
-    ensures cycle { IfOk result (λ stepped.
-        Cycle (system_of net.now.nets (trees_of net.now.words) net.now.drivers) nothing (values (held_bits net.now.drivers inputs.now)) (values stepped.values)) }
-    ensures next { IfOk result (λ stepped. length stepped.next ≡ register_count net.now.drivers) }
+    ensures { IfOk result (λ stepped. IsStep (parts_of net.now) state.now inputs.now stepped.values stepped.next) }
 {
-    let _ = state;
-    let mut values = held(alloc, net.drivers.as_slice(), inputs)?;
-    solve(alloc, net, &mut values)?;
+    let mut values = held(alloc, net.drivers.as_slice(), state.as_slice(), inputs)?;
+    let words = solve(alloc, net, &mut values)?;
+    let next = next_values(alloc, net.drivers.as_slice(), &words)?;
     Ok(Stepped {
         values: Bits::from_vec(values),
-        next: State::new(alloc),
+        next,
     })
 }

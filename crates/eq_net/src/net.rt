@@ -2,9 +2,8 @@
 
 ghost use Rattle.std.specs.Prelude.{◌≡◌, ◌≤◌, slice_get};
 ghost use Rattle.std.specs.Option.{option_copied};
-ghost use Rattle.eq_net.specs.Net.{IsNet, bits_of, most_cost};
+ghost use Rattle.eq_net.specs.Net.{IsNet, bits_of, most_cost, parts};
 ghost use Rattle.eq_net.specs.NetProp.{IsNet-prop};
-ghost use Rattle.eq_net.specs.Tree.{trees_of};
 
 use crate::types::{Drivers, NetInfo, NetInfos, NetNumbers, Words};
 
@@ -21,7 +20,7 @@ pub struct Net {
     pub clock: Option<u32>,
     /// A bound on the nodes that the design takes as a graph of bits, at most 2,000,000.
     pub cost: u64,
-    ghost is_net: { IsNet nets (trees_of words) drivers ports clock cost } by { IsNet-prop nets (trees_of words) drivers ports clock cost },
+    ghost is_net: { IsNet (parts nets words drivers ports clock cost) } by { IsNet-prop (parts nets words drivers ports clock cost) },
 }
 
 impl Net {

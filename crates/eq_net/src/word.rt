@@ -1,17 +1,20 @@
-//! The values of words, put onto one stack of truth values.
+//! The values of words, from the values of all bits of the nets.
 
-ghost use Rattle.std.specs.Prelude.{◌≡◌, ℕ, ◌+◌, ◌-◌, ◌<◌, ◌≤◌, ◌++◌, [], Bool, All, OnOk, false, not, length, slice_index_or, map};
-ghost use Rattle.eq_model.specs.Frames.{values};
-ghost use Rattle.eq_net.specs.Meaning.{apply, bit_of, width};
-ghost use Rattle.eq_net.specs.Net.{HasBit, IsWord, bits_of, number_of, nothing_read};
-ghost use Rattle.eq_net.specs.Stack.{AreStarts, Grows, HasWords};
-ghost use Rattle.eq_net.specs.Tree.{tree_of, trees_of};
-ghost use Rattle.eq_net.specs.declared.types.Word.{Word};
-ghost use Rattle.eq_net.specs.declared.types.Word.TheVariants.{Read};
+ghost use Rattle.std.specs.Prelude.{◌≡◌, ℕ, ◌++◌, ◌≤◌, ◌<◌, All, IfOk, OnOk, length, map};
+ghost use Rattle.eq_model.specs.Frames.{frames, values};
+ghost use Rattle.eq_net.specs.Meaning.{bit_of, width};
+ghost use Rattle.eq_net.specs.Net.{AreWords, HasBit, bits_of, number_of, word_at};
+ghost use Rattle.eq_net.specs.Tree.{join_all, tree_of, trees_of};
+ghost use Rattle.eq_net.specs.inner.Sized.{AreStarts, HasWords, IsSized};
+ghost use Rattle.eq_net.specs.inner.Stack.{Grows};
 
-use crate::types::{NetInfo, Word, WordOp};
-use eq_base::Memory;
+use crate::arithmetic::oppose;
+use crate::bitwise::negate;
+use crate::operators::{choose_one, extend, operate, reduce_to_one};
+use crate::types::{NetInfo, Word, WordBit};
+use eq_base::{Bits, Memory};
 use eq_names::BitName;
+use std::alloc::Global;
 
 /// The value of a named bit.
 fn named(name: BitName, nets: &[NetInfo], starts: &[u32], now: &[bool]) -> bool
@@ -23,8 +26,36 @@ fn named(name: BitName, nets: &[NetInfo], starts: &[u32], now: &[bool]) -> bool
     now[starts[name.net as usize] as usize + name.bit as usize]
 }
 
-/// Puts the values of named bits onto the stack.
-fn push_bits(
+/// The value at a place, 0 where there is none.
+fn value_at(bits: &Bits, at: usize) -> bool
+    ensures { result ≡ values bits.now at }
+{
+    match bits.get(at) {
+        Some(value) => *value,
+        None => false,
+    }
+}
+
+/// The value of a bit of an earlier word, 0 where it isn't there.
+pub fn picked(bit: WordBit, earlier: &[Bits]) -> bool
+    ensures { result ≡ frames earlier.now bit.word bit.bit }
+{
+    match earlier.get(bit.word as usize) {
+        Some(bits) => value_at(bits, bit.bit as usize),
+        None => false,
+    }
+}
+
+fn push_constant(bits: &[bool], stack: &mut Vec<bool>) -> Result<(), Memory>
+    ensures { OnOk result (stack.new.items ≡ stack.old.items ++ bits.now) }
+{
+    for bit in bits {
+        stack.push(*bit)?;
+    }
+    Ok(())
+}
+
+fn push_named(
     names: &[BitName],
     nets: &[NetInfo],
     starts: &[u32],
@@ -42,96 +73,137 @@ fn push_bits(
     Ok(())
 }
 
-/// Negates the values from a place on.
-fn negate(stack: &mut Vec<bool>, from: usize)
-    requires { from ≤ length stack.old.items }
-    ensures size { length stack.new.items ≡ length stack.old.items }
-    ensures kept { (k : ℕ) → k < from → slice_index_or stack.new.items k false ≡ slice_index_or stack.old.items k false }
-    ensures negated { (k : ℕ) → from ≤ k → k < length stack.old.items →
-        slice_index_or stack.new.items k false ≡ not (slice_index_or stack.old.items k false) }
+fn push_picked(bits: &[WordBit], earlier: &[Bits], stack: &mut Vec<bool>) -> Result<(), Memory>
+    ensures { OnOk result (stack.new.items ≡ stack.old.items ++ map (λ (b : WordBit). frames earlier.now b.word b.bit) bits.now) }
 {
-    for k in from..stack.len() {
-        stack[k] = !stack[k];
+    for bit in bits {
+        stack.push(picked(*bit, earlier))?;
     }
+    Ok(())
 }
 
-/// One bit of an operation.
-fn applied(op: WordOp, x: bool, y: bool) -> bool
-    ensures { result ≡ apply op x y }
-{
-    match op {
-        WordOp::And => x & y,
-        WordOp::Or => x | y,
-        WordOp::Xor => x ^ y,
-    }
-}
-
-/// Puts an operation in the place of its operands, the values from `left` up to `right` and those from there on.
-fn combine(op: WordOp, stack: &mut Vec<bool>, left: usize, right: usize)
-    requires order { left ≤ right }
-    requires sizes { right + (right - left) ≡ length stack.old.items }
-    ensures size { length stack.new.items ≡ right }
-    ensures kept { (k : ℕ) → k < left → slice_index_or stack.new.items k false ≡ slice_index_or stack.old.items k false }
-    ensures combined { (j : ℕ) → j < right - left → slice_index_or stack.new.items (left + j) false ≡
-        apply op (slice_index_or stack.old.items (left + j) false) (slice_index_or stack.old.items (right + j) false) }
-{
-    for j in 0..right - left {
-        let bit = applied(op, stack[left + j], stack[right + j]);
-        stack[left + j] = bit;
-    }
-    stack.truncate(right);
-}
-
-/// Puts the bits of a word onto the stack, from the values of all bits of the nets.
+/// Puts the bits of a word onto the stack.
+#[cycle(words)]
 fn push_word(
     word: &Word,
     nets: &[NetInfo],
     starts: &[u32],
     now: &[bool],
+    earlier: &[Bits],
     stack: &mut Vec<bool>,
 ) -> Result<(), Memory>
-    requires word { IsWord nets.now (tree_of word.now) }
+    requires sized { IsSized nets.now (tree_of word.now) }
     requires starts { AreStarts nets.now starts.now }
     requires bits { length now.now ≡ bits_of nets.now }
-    ensures { OnOk result (Grows (bit_of (values now.now) (number_of nets.now) (tree_of word.now)) (width (tree_of word.now)) stack.old.items stack.new.items) }
+    ensures { OnOk result (Grows (bit_of (values now.now) (number_of nets.now) (frames earlier.now) (tree_of word.now)) (width (tree_of word.now)) stack.old.items stack.new.items) }
 {
+    let from = stack.len();
     match word {
-        Word::Read(names) => push_bits(names.as_slice(), nets, starts, now, stack),
-        Word::Not(operand) => {
-            let from = stack.len();
-            push_word(operand, nets, starts, now, stack)?;
+        Word::Const(bits) => push_constant(bits.as_slice(), stack),
+        Word::Read(names) => push_named(names.as_slice(), nets, starts, now, stack),
+        Word::Pick(bits) => push_picked(bits.as_slice(), earlier, stack),
+        Word::Not(a) => {
+            push_word(a.get(), nets, starts, now, earlier, stack)?;
             negate(stack, from);
             Ok(())
         }
-        Word::Binary(op, left, right) => {
-            let from = stack.len();
-            push_word(left, nets, starts, now, stack)?;
-            let middle = stack.len();
-            push_word(right, nets, starts, now, stack)?;
-            combine(*op, stack, from, middle);
+        Word::Neg(a) => {
+            push_word(a.get(), nets, starts, now, earlier, stack)?;
+            oppose(stack, from);
             Ok(())
+        }
+        Word::Binary(op, a, b) => {
+            push_word(a.get(), nets, starts, now, earlier, stack)?;
+            let right = stack.len();
+            push_word(b.get(), nets, starts, now, earlier, stack)?;
+            operate(*op, stack, from, right)
+        }
+        Word::Reduce(op, a) => {
+            push_word(a.get(), nets, starts, now, earlier, stack)?;
+            reduce_to_one(*op, stack, from)
+        }
+        Word::Mux(c, a, b) => {
+            push_word(c.get(), nets, starts, now, earlier, stack)?;
+            let left = stack.len();
+            push_word(a.get(), nets, starts, now, earlier, stack)?;
+            let right = stack.len();
+            push_word(b.get(), nets, starts, now, earlier, stack)?;
+            choose_one(stack, from, left, right);
+            Ok(())
+        }
+        Word::Concat(parts) => { push_parts(parts.as_slice(), nets, starts, now, earlier, stack) }
+        Word::Extend(a, count) => {
+            push_word(a.get(), nets, starts, now, earlier, stack)?;
+            extend(stack, from, *count as usize)
         }
     }
 }
 
-/// Puts the bits of all words onto the stack, and answers where each word begins.
-pub fn push_words(
+/// Puts the bits of words onto the stack, those of the last word lowest.
+#[cycle(words)]
+fn push_parts(
+    parts: &[Word],
+    nets: &[NetInfo],
+    starts: &[u32],
+    now: &[bool],
+    earlier: &[Bits],
+    stack: &mut Vec<bool>,
+) -> Result<(), Memory>
+    requires sized { IsSized nets.now (join_all (trees_of parts.now)) }
+    requires starts { AreStarts nets.now starts.now }
+    requires bits { length now.now ≡ bits_of nets.now }
+    ensures { OnOk result (Grows (bit_of (values now.now) (number_of nets.now) (frames earlier.now) (join_all (trees_of parts.now))) (width (join_all (trees_of parts.now))) stack.old.items stack.new.items) }
+{
+    for turn in 0..parts.len() {
+        push_word(
+            &parts[parts.len() - 1 - turn],
+            nets,
+            starts,
+            now,
+            earlier,
+            stack,
+        )?;
+    }
+    Ok(())
+}
+
+/// The bits of a word.
+pub fn evaluate(
+    alloc: Global,
+    word: &Word,
+    nets: &[NetInfo],
+    starts: &[u32],
+    now: &[bool],
+    earlier: &[Bits],
+) -> Result<Bits, Memory>
+    requires sized { IsSized nets.now (tree_of word.now) }
+    requires starts { AreStarts nets.now starts.now }
+    requires bits { length now.now ≡ bits_of nets.now }
+    ensures size { IfOk result (λ bits. length bits ≡ width (tree_of word.now)) }
+    ensures each { IfOk result (λ bits. (j : ℕ) → j < width (tree_of word.now) → values bits j ≡ bit_of (values now.now) (number_of nets.now) (frames earlier.now) (tree_of word.now) j) }
+{
+    let mut stack = Vec::new(alloc);
+    push_word(word, nets, starts, now, earlier, &mut stack)?;
+    Ok(Bits::from_vec(stack))
+}
+
+/// The bits of all words, where the nets' bits have the values `now`.
+pub fn evaluate_all(
+    alloc: Global,
     words: &[Word],
     nets: &[NetInfo],
     starts: &[u32],
     now: &[bool],
-    begins: &mut Vec<usize>,
-    stack: &mut Vec<bool>,
-) -> Result<(), Memory>
-    requires words { (k : ℕ) → k < length words.now → IsWord nets.now (slice_index_or (trees_of words.now) k nothing_read) }
+) -> Result<Vec<Bits>, Memory>
+    requires words { AreWords nets.now (trees_of words.now) }
     requires starts { AreStarts nets.now starts.now }
     requires bits { length now.now ≡ bits_of nets.now }
-    requires empty { begins.old.items ≡ [] }
-    ensures { OnOk result (HasWords (values now.now) (number_of nets.now) (trees_of words.now) (length words.now) begins.new.items stack.new.items) }
+    ensures { IfOk result (λ all. HasWords (values now.now) (number_of nets.now) (trees_of words.now) (length words.now) all.items) }
 {
+    let mut all = Vec::with_capacity(alloc, words.len())?;
     for word in words {
-        begins.push(stack.len())?;
-        push_word(word, nets, starts, now, stack)?;
+        let bits = evaluate(alloc, word, nets, starts, now, &all)?;
+        all.push(bits)?;
     }
-    Ok(())
+    Ok(all)
 }

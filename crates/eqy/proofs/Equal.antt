@@ -1,10 +1,11 @@
 -- Two designs of the first form are equivalent exactly where their expressions have equal values.
-use Rattle.std.proofs.Common.{◌≡◌, ◌≢◌, ℕ, zero, suc, ◌-◌, ◌<◌, List, [], ◌∷◌, Bool, true, false, cond, map, length, slice_index_or, AllPairs, ◌↔◌, inl, inr, refl, arith, sym, ap, subst, ◌∙◌}
+use Rattle.std.proofs.Common.{◌≡◌, ◌≢◌, ℕ, zero, suc, ◌+◌, ◌-◌, ◌<◌, ◌≤◌, List, [], ◌∷◌, Bool, true, false, cond, map, length, slice_index_or, AllPairs, ◌↔◌, inl, inr, refl, arith, sym, ap, subst, ◌∙◌}
 use Rattle.std.specs.Str.{bytes_eq}
 use Rattle.std.proofs.lemmas.Slice.Eq.{bytes_eq-Decides}
 use Rattle.std.proofs.lemmas.Bool.{cases_lt, le-ltb, false_from_ne_true}
 use Rattle.eq_model.specs.System.{Values, System, IsSystem, IsLoopFree, HasOneCycle, Reads, nothing}
-use Rattle.eq_model.specs.Run.{Design, Key, HasPorts, Equivalent, is_output as output_side}
+use Rattle.eq_model.specs.Nets.{Key, at_bit, is_output as output_side}
+use Rattle.eq_model.specs.Run.{Design, IsDesign, HasPorts, Equivalent}
 use Rattle.eq_model.specs.Combinational.{IsCombinational, IsPlain, SameValues}
 use Rattle.eq_first.specs.declared.module.Direction.{Direction}
 use Rattle.eq_first.specs.declared.module.Direction.TheVariants.{Input, Output}
@@ -14,16 +15,18 @@ use Rattle.eq_first.specs.Value.{value}
 use Rattle.eq_first.specs.Well.{Goes, IsWellFormed}
 use Rattle.eq_net.specs.declared.types.Driver.{Driver}
 use Rattle.eq_net.specs.declared.types.NetInfo.{NetInfo}
-use Rattle.eq_net.specs.Tree.{Tree}
-use Rattle.eq_net.specs.Net.{IsWord, nothing_read, key_at, side_at, side_of, source_of, system_of}
+use Rattle.eq_net.specs.Nets.{side_of}
+use Rattle.eq_net.specs.Net.{AreWords, IsNet, Parts, nets_of, source_of, system_of, design_of}
 use Rattle.eqy.specs.Designs.{first_design, DesignsAre}
-use Rattle.eqy.specs.Netlist.{net_of, driver_of, driven_by, dir_of, word_of}
+use Rattle.eqy.specs.Netlist.{first_parts, net_of, driven_by, dir_of, word_of}
+use Rattle.eqy.specs.Command.{most_inputs}
+use Rattle.eqy.specs.Inputs.{inputs_of}
 use Rattle.eqy.specs.declared.report.Verdict.{Verdict}
 use Rattle.eqy.specs.declared.report.Verdict.TheVariants.{Proved, Fail}
 use Rattle.eqy.specs.Verdicts.{AreEqual, Differ, IsVerdict}
 use Rattle.eqy.proofs.Listed.{system, output_value, value_of_inputs}
-use Rattle.eqy.proofs.Made.{rank, ranks, word_reads}
-use Rattle.eqy.proofs.Ports.{bits_of-ports, goes_somewhere, goes_below, driver_at, side_at-ports}
+use Rattle.eqy.proofs.Made.{rank, ranks, word_reads, made as netlist}
+use Rattle.eqy.proofs.Ports.{bits_of-ports, goes_somewhere, goes_below, driver_at, side_at, side_at-ports, one_output}
 
 ways_clash : (ps : List Port) (n : ℕ) → Goes ps Input n → Goes ps Output n → ⊥
 ways_clash [] n i o = i
@@ -42,6 +45,10 @@ is_one a b same = elim (cases_lt a b) [
 output_way : (d : Direction) → side_of (dir_of d) ≡ output_side → d ≡ Output
 output_way Input e = absurd (cc)
 output_way Output e = refl
+
+-- the name and place of bit b
+abbrev key_at : List NetInfo → ℕ → Key
+key_at nets b = at_bit ([], 0) (λ n place. (n.name, place)) (nets_of nets) b
 
 -- the output port is the only bit of an output
 the_output : (m : Module) → IsWellFormed m → (a : ℕ) → a < length m.ports → side_at (map net_of m.ports) a ≡ output_side → a ≡ m.output
@@ -121,31 +128,39 @@ found m well v k lt =
     let d = some_port m.ports (omega arith) in
     ap (λ name. find m.ports name v) (key_name m.ports k d lt) ∙ find_named m.ports well.distinct v k d lt
 
+-- all ports but one are inputs
+ports_few : (m : Module) → IsWellFormed m → inputs_of m.ports ≤ most_inputs → length m.ports ≤ most_inputs + 1
+ports_few m well narrow = (let one = one_output m.ports m.output well.inputs in omega arith)
+
 module _ (ranked : (s : System) → IsSystem s → (rank : ℕ → ℕ) → ((a b : ℕ) → a < s.bits → Reads s a b → rank b < rank a) → IsLoopFree s)
-    (made : (nets : List NetInfo) (words : List Tree) (drivers : List Driver) →
-    ((k : ℕ) → k < length words → IsWord nets (slice_index_or words k nothing_read)) → IsSystem (system_of nets words drivers)) where
+    (made : (n : Parts) → AreWords n.nets n.words → IsSystem (system_of n)) (net_design : (n : Parts) → IsNet n → IsDesign (design_of n)) where
   is_system : (m : Module) → IsWellFormed m → IsSystem (system m)
-  is_system m well = made (map net_of m.ports) (word_of m.expr ∷ []) (map driver_of m.ports) (word_reads m.ports m.expr well.reads)
+  is_system m well = made (first_parts m) (word_reads m well.reads)
 
   is_free : (m : Module) → IsWellFormed m → IsLoopFree (system m)
-  is_free m well = ranked (system m) (is_system m well) (rank m.ports) (λ a b lt reads. ranks m.ports m.expr well.reads a b (let bits = bits_of-ports m.ports in omega arith) reads)
+  is_free m well = ranked (system m) (is_system m well) (rank m.ports) (λ a b lt reads. ranks m well.reads a b (let bits = bits_of-ports m.ports in omega arith) reads)
 
-  module _ (combinational : (gold gate : Design) → IsCombinational gold → IsCombinational gate → IsSystem gold.system → IsSystem gate.system →
+  -- the netlist of a module keeps what a net keeps, so it is a design
+  is_design : (m : Module) → IsWellFormed m → length m.ports ≤ most_inputs + 1 → IsDesign (first_design m)
+  is_design m well few = net_design (first_parts m) (netlist m well (omega arith) (is_free m well))
+
+  module _ (combinational : (gold gate : Design) → IsCombinational gold → IsCombinational gate → IsDesign gold → IsDesign gate →
       IsLoopFree gold.system → IsLoopFree gate.system → HasPorts gold gate → HasPorts gate gold → (Equivalent gold gate ↔ SameValues gold gate)) where
-    by_values : (m n : Module) → IsWellFormed m → IsWellFormed n → m.ports ≡ n.ports → (Equivalent (first_design m) (first_design n) ↔ SameValues (first_design m) (first_design n))
-    by_values m n wm wn e =
-        combinational (first_design m) (first_design n) (combinational_design m) (combinational_design n) (is_system m wm) (is_system n wn) (is_free m wm) (is_free n wn)
+    by_values : (m n : Module) → IsWellFormed m → IsWellFormed n → m.ports ≡ n.ports → length m.ports ≤ most_inputs + 1 → (Equivalent (first_design m) (first_design n) ↔ SameValues (first_design m) (first_design n))
+    by_values m n wm wn e few =
+        combinational (first_design m) (first_design n) (combinational_design m) (combinational_design n)
+        (is_design m wm few) (is_design n wn (let same = ap length e in omega arith)) (is_free m wm) (is_free n wn)
         (has_ports m n e) (has_ports n m (sym e))
 
-    equal_equivalent : (m n : Module) → IsWellFormed m → IsWellFormed n → m.ports ≡ n.ports → AreEqual m n → Equivalent (first_design m) (first_design n)
-    equal_equivalent m n wm wn e equal = (by_values m n wm wn e).1 (same_values m n wm wn e equal)
+    equal_equivalent : (m n : Module) → IsWellFormed m → IsWellFormed n → m.ports ≡ n.ports → length m.ports ≤ most_inputs + 1 → AreEqual m n → Equivalent (first_design m) (first_design n)
+    equal_equivalent m n wm wn e few equal = (by_values m n wm wn e few).1 (same_values m n wm wn e equal)
 
     differ_not_equivalent : ((s : System) → IsSystem s → IsLoopFree s → (cut : ℕ → Bool) (u : Values) → HasOneCycle s cut u) →
-        (m n : Module) → IsWellFormed m → IsWellFormed n → m.ports ≡ n.ports → Differ m n → Equivalent (first_design m) (first_design n) → ⊥
-    differ_not_equivalent one_cycle m n wm wn e differ equivalent =
+        (m n : Module) → IsWellFormed m → IsWellFormed n → m.ports ≡ n.ports → length m.ports ≤ most_inputs + 1 → Differ m n → Equivalent (first_design m) (first_design n) → ⊥
+    differ_not_equivalent one_cycle m n wm wn e few differ equivalent =
         let v = differ.0 in
         let given : Key → Bool = λ key. find m.ports key.0 v in
-        let same = (by_values m n wm wn e).0 equivalent in
+        let same = (by_values m n wm wn e few).0 equivalent in
         let gold = (one_cycle (system m) (is_system m wm) (is_free m wm) nothing (named m given)).some in
         let gate = (one_cycle (system n) (is_system n wn) (is_free n wn) nothing (named n given)).some in
         let lm = goes_below m.ports Output m.output wm.output in
@@ -165,6 +180,6 @@ module _ (ranked : (s : System) → IsSystem s → (rank : ℕ → ℕ) → ((a 
         ∙ value_of_inputs n wn (named m given) v (λ p goes. found m wm v p (let below = goes_below n.ports Input p goes in omega arith)))
 
     pub designs_are : ((s : System) → IsSystem s → IsLoopFree s → (cut : ℕ → Bool) (u : Values) → HasOneCycle s cut u) →
-        (verdict : Verdict) (m n : Module) → IsWellFormed m → IsWellFormed n → m.ports ≡ n.ports → IsVerdict verdict m n → DesignsAre verdict m n
-    designs_are one_cycle Proved m n wm wn e is = equal_equivalent m n wm wn e is
-    designs_are one_cycle Fail m n wm wn e is = differ_not_equivalent one_cycle m n wm wn e is
+        (verdict : Verdict) (m n : Module) → IsWellFormed m → IsWellFormed n → m.ports ≡ n.ports → inputs_of m.ports ≤ most_inputs → IsVerdict verdict m n → DesignsAre verdict m n
+    designs_are one_cycle Proved m n wm wn e narrow is = equal_equivalent m n wm wn e (ports_few m wm narrow) is
+    designs_are one_cycle Fail m n wm wn e narrow is = differ_not_equivalent one_cycle m n wm wn e (ports_few m wm narrow) is

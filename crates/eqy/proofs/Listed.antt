@@ -9,18 +9,16 @@ use Rattle.eq_first.specs.declared.module.Module.{Module}
 use Rattle.eq_first.specs.Value.{value, reads_of}
 use Rattle.eq_first.specs.Well.{Goes, IsWellFormed}
 use Rattle.eq_net.specs.declared.types.Driver.{Driver}
-use Rattle.eq_net.specs.declared.types.NetInfo.{NetInfo}
-use Rattle.eq_net.specs.Held.{held_bits}
-use Rattle.eq_net.specs.Tree.{Tree}
+use Rattle.eq_net.specs.Held.{held_bits, initial_bits}
 use Rattle.eq_net.specs.Net.{number_of, source_of, system_of}
 use Rattle.eqy.specs.Inputs.{inputs_of, counted}
 use Rattle.eqy.specs.Listing.{digits, given}
-use Rattle.eqy.specs.Netlist.{net_of, driver_of, driven_by, word_of}
+use Rattle.eqy.specs.Netlist.{first_parts, net_of, driver_of, driven_by, word_of}
 use Rattle.eqy.proofs.Mirrored.{bit_of_port, mirrored}
 use Rattle.eqy.proofs.Ports.{bits_of-ports, goes_below, driver_at, number_of-port}
 
 abbrev pub system : Module → System
-system m = system_of (map net_of m.ports) (word_of m.expr ∷ []) (map driver_of m.ports)
+system m = system_of (first_parts m)
 
 -- an input has the value that it is given
 input_given : (m : Module) (u v : Values) → Cycle (system m) nothing u v → (p : ℕ) → Goes m.ports Input p → v p ≡ u p
@@ -36,7 +34,7 @@ output_value m well u v cycle =
     let below = goes_below m.ports Output m.output well.output in
     let P : Driver → Type 0 = λ d. Meets (source_of (map net_of m.ports) (word_of m.expr ∷ []) d) v (v m.output) in
     let meets = subst P (driver_at m.ports Output m.output well.output) (cycle.driven m.output (let bits = bits_of-ports m.ports in omega arith) refl) in
-    meets ∙ (mirrored m.expr).same v number
+    meets ∙ (mirrored m.expr).same v number (λ w j. false)
     ∙ (mirrored m.expr).depends (λ p. v (number (bit_of_port p))) u (λ k d lt.
     let p = slice_index_or (reads_of m.expr) k d in
     let goes = well.reads k d lt in
@@ -46,14 +44,14 @@ output_value m well u v cycle =
 pub value_of_inputs : (m : Module) → IsWellFormed m → (v w : ℕ → Bool) → ((p : ℕ) → Goes m.ports Input p → v p ≡ w p) → value m.expr v ≡ value m.expr w
 value_of_inputs m well v w agree = (mirrored m.expr).depends v w (λ k d lt. agree (slice_index_or (reads_of m.expr) k d) (well.reads k d lt))
 
-pub moved_cycle : (nets nets' : List NetInfo) (words words' : List Tree) (drivers drivers' : List Driver) (inputs : List Bool) (v : Values) →
-    nets ≡ nets' → words ≡ words' → drivers ≡ drivers' → Cycle (system_of nets words drivers) nothing (values (held_bits drivers inputs)) v →
-    Cycle (system_of nets' words' drivers') nothing (values (held_bits drivers' inputs)) v
-moved_cycle nets nets' words words' drivers drivers' inputs v en ew ed cycle =
-    let A : List NetInfo → Type 0 = λ x. Cycle (system_of x words' drivers') nothing (values (held_bits drivers' inputs)) v in
-    let B : List Tree → Type 0 = λ x. Cycle (system_of nets x drivers') nothing (values (held_bits drivers' inputs)) v in
-    let C : List Driver → Type 0 = λ x. Cycle (system_of nets words x) nothing (values (held_bits x inputs)) v in
-    subst A en (subst B ew (subst C ed cycle))
+-- there is no register
+pub no_register : (ps : List Port) → initial_bits (map driver_of ps) ≡ []
+no_register [] = refl
+no_register (p ∷ ps) = not_first p.direction (map driver_of ps) ∙ no_register ps
+  where
+    not_first : (d : Direction) (ds : List Driver) → initial_bits (driven_by d ∷ ds) ≡ initial_bits ds
+    not_first Input ds = refl
+    not_first Output ds = refl
 
 -- the values of the inputs alone, in the order of the header
 
@@ -76,11 +74,11 @@ length-inputs_at (p ∷ ps) v =
     let e = length-inputs_at ps (λ k. v (suc k)) in
     omega arith
 
-first_held : (d : Direction) (ds : List Driver) (x : Bool) (xs : List Bool) → d ≡ Input → values (held_bits (driven_by d ∷ ds) (kept d x xs)) 0 ≡ x
+first_held : (d : Direction) (ds : List Driver) (x : Bool) (xs : List Bool) → d ≡ Input → values (held_bits (driven_by d ∷ ds) [] (kept d x xs)) 0 ≡ x
 first_held Input ds x xs e = refl
 first_held Output ds x xs e = absurd (cc)
 
-later_held : (d : Direction) (ds : List Driver) (x : Bool) (xs : List Bool) (n : ℕ) → values (held_bits (driven_by d ∷ ds) (kept d x xs)) (suc n) ≡ values (held_bits ds xs) n
+later_held : (d : Direction) (ds : List Driver) (x : Bool) (xs : List Bool) (n : ℕ) → values (held_bits (driven_by d ∷ ds) [] (kept d x xs)) (suc n) ≡ values (held_bits ds [] xs) n
 later_held Input ds x xs n = refl
 later_held Output ds x xs n = refl
 

@@ -1,5 +1,5 @@
 -- The word of an expression has the expression's value, and reads the ports that it names.
-use Rattle.std.proofs.Common.{◌≡◌, ℕ, zero, suc, ◌+◌, ◌*◌, ◌≤◌, List, [], ◌∷◌, ◌++◌, Bool, true, false, not, ◌&&◌, ◌||◌, map, All, length, length-append, get_or-append-add, mul-one, refl, arith, sym, ap, subst, ◌∙◌}
+use Rattle.std.proofs.Common.{◌≡◌, ℕ, zero, suc, ◌+◌, ◌*◌, ◌≤◌, List, [], ◌∷◌, ◌++◌, Bool, true, false, not, ◌&&◌, ◌||◌, map, All, length, length-append, get_or-append-add, refl, arith, sym, ap, subst, ◌∙◌}
 use Rattle.std.proofs.Math.ListN.{get_or-append}
 use Rattle.std.proofs.lemmas.List.{map-append}
 use Rattle.eq_model.specs.System.{Values}
@@ -14,7 +14,9 @@ use Rattle.eq_net.specs.declared.types.NetInfo.{NetInfo}
 use Rattle.eq_net.specs.declared.types.WordOp.{WordOp}
 use Rattle.eq_net.specs.declared.types.WordOp.TheVariants.{And as AndOp, Or as OrOp, Xor as XorOp}
 use Rattle.eq_net.specs.Tree.{Tree, negated, binary}
-use Rattle.eq_net.specs.Meaning.{width, apply, bit_of, reads_of as bits_read, bit_cost, cost_of}
+use Rattle.eq_net.specs.Meaning.{width, bit_of, reads_of as bits_read, result_size, cost_of}
+use Rattle.eq_net.specs.Numbers.{Digits, differ as differ_bit}
+use Rattle.eq_net.specs.Operators.{Reads, apply, apply_reads, apply_cost}
 use Rattle.eq_net.specs.Net.{HasBit, IsWord}
 use Rattle.eqy.specs.Netlist.{reads_port, word_of, word_layer}
 
@@ -25,9 +27,9 @@ bit_of_port n = record { net = n; bit = 0 }
 -- a word of one bit that has the value f of the ports, reads just these, and has n operators
 pub record Mirrors (t : Tree) (f : (ℕ → Bool) → Bool) (rs : List ℕ) (n : ℕ) : Type 0 where
   pub one : width t ≡ 1
-  pub same : (v : Values) (number : BitName → ℕ) → bit_of v number t 0 ≡ f (λ p. v (number (bit_of_port p)))
-  pub reads : (number : BitName → ℕ) → bits_read number t 0 ≡ map (λ p. number (bit_of_port p)) rs
-  pub word : (nets : List NetInfo) → All (λ p. HasBit nets (bit_of_port p)) rs → IsWord nets t
+  pub same : (v : Values) (number : BitName → ℕ) (e : ℕ → ℕ → Bool) → bit_of v number e t 0 ≡ f (λ p. v (number (bit_of_port p)))
+  pub reads : (number : BitName → ℕ) (r : ℕ → ℕ → List ℕ) → bits_read number r t 0 ≡ map (λ p. number (bit_of_port p)) rs
+  pub word : (nets : List NetInfo) (words : List Tree) (k : ℕ) → All (λ p. HasBit nets (bit_of_port p)) rs → IsWord nets words k t
   pub cheap : cost_of t ≤ 4 * n
   pub depends : (v w : ℕ → Bool) → All (λ p. v p ≡ w p) rs → f v ≡ f w
 
@@ -48,9 +50,9 @@ all_right P xs ys h k d lt = subst P (get_or-append-add xs ys k d) (h (length xs
 port_mirrors : (n : ℕ) → Mirrors (reads_port n) (λ v. v n) (n ∷ []) 0
 port_mirrors n = record {
   one = refl;
-  same = λ v number. refl;
-  reads = λ number. refl;
-  word = λ nets all. one_name nets (all 0 0 (omega arith));
+  same = λ v number e. refl;
+  reads = λ number r. refl;
+  word = λ nets words k all. one_name nets (all 0 0 (omega arith));
   cheap = omega arith;
   depends = λ v w agree. agree 0 0 (omega arith);
 }
@@ -62,41 +64,57 @@ port_mirrors n = record {
 not_mirrors : (t : Tree) (f : (ℕ → Bool) → Bool) (rs : List ℕ) (n : ℕ) → Mirrors t f rs n → Mirrors (negated t) (λ v. not (f v)) rs (n + 1)
 not_mirrors t f rs n m = record {
   one = m.one;
-  same = λ v number. ap not (m.same v number);
+  same = λ v number e. ap not (m.same v number e);
   reads = m.reads;
   word = m.word;
   cheap = (let c = m.cheap in let w = m.one in omega arith);
   depends = λ v w agree. ap not (m.depends v w agree);
 }
 
-binary_mirrors : (op : WordOp) (t u : Tree) (f g : (ℕ → Bool) → Bool) (rs qs : List ℕ) (m n : ℕ) → bit_cost op ≤ 4 → Mirrors t f rs m → Mirrors u g qs n →
-    Mirrors (binary op t u) (λ v. apply op (f v) (g v)) (rs ++ qs) (m + n + 1)
-binary_mirrors op t u f g rs qs m n low a b = record {
-  one = a.one;
-  same = λ v number. (let l = a.same v number in let r = b.same v number in rw (l, r) refl);
-  reads = λ number. (let l = a.reads number in let r = b.reads number in rw (l, r) (sym (map-append (λ p. number (bit_of_port p)) rs qs)));
-  word = λ nets all. (a.word nets (all_left (λ p. HasBit nets (bit_of_port p)) rs qs all), b.word nets (all_right (λ p. HasBit nets (bit_of_port p)) rs qs all), a.one ∙ sym b.one);
+-- an operator that computes its one bit from the bits at its place
+record IsPlaced (op : WordOp) (F : Bool → Bool → Bool) : Type 0 where
+  value : (m n : ℕ) (a b : Digits) → apply op m n a b 0 ≡ F (a 0) (b 0)
+  reads : (m n : ℕ) (a b : Reads) → apply_reads op m n a b 0 ≡ a 0 ++ b 0
+  size : (n : ℕ) → result_size op n ≡ n
+  cheap : (m n : ℕ) → apply_cost op m n ≤ 4 * m
+
+and_placed : IsPlaced AndOp (λ x y. x && y)
+and_placed = record { value = λ m n a b. refl; reads = λ m n a b. refl; size = λ n. refl; cheap = λ m n. omega arith }
+
+or_placed : IsPlaced OrOp (λ x y. x || y)
+or_placed = record { value = λ m n a b. refl; reads = λ m n a b. refl; size = λ n. refl; cheap = λ m n. omega arith }
+
+xor_placed : IsPlaced XorOp (λ x y. differ_bit x y)
+xor_placed = record { value = λ m n a b. refl; reads = λ m n a b. refl; size = λ n. refl; cheap = λ m n. omega arith }
+
+binary_mirrors : (op : WordOp) (F : Bool → Bool → Bool) → IsPlaced op F → (t u : Tree) (f g : (ℕ → Bool) → Bool) (rs qs : List ℕ) (m n : ℕ) → Mirrors t f rs m → Mirrors u g qs n →
+    Mirrors (binary op t u) (λ v. F (f v) (g v)) (rs ++ qs) (m + n + 1)
+binary_mirrors op F placed t u f g rs qs m n a b = record {
+  one = placed.size (width t) ∙ a.one;
+  same = λ v number e. placed.value (width t) (width u) (bit_of v number e t) (bit_of v number e u) ∙ ap (λ x. F x (bit_of v number e u 0)) (a.same v number e)
+      ∙ ap (λ x. F (f (λ p. v (number (bit_of_port p)))) x) (b.same v number e);
+  reads = λ number r. placed.reads (width t) (width u) (bits_read number r t) (bits_read number r u) ∙ ap (λ x. x ++ bits_read number r u 0) (a.reads number r)
+      ∙ ap (λ x. map (λ p. number (bit_of_port p)) rs ++ x) (b.reads number r) ∙ sym (map-append (λ p. number (bit_of_port p)) rs qs);
+  word = λ nets words k all. (a.word nets words k (all_left (λ p. HasBit nets (bit_of_port p)) rs qs all), b.word nets words k (all_right (λ p. HasBit nets (bit_of_port p)) rs qs all), λ free. a.one ∙ sym b.one);
   cheap = (
       let c = a.cheap in
       let d = b.cheap in
-      let w : bit_cost op * width t ≡ bit_cost op = ap (λ k. bit_cost op * k) a.one ∙ mul-one (bit_cost op) in
+      let w = a.one in
+      let h = placed.cheap (width t) (width u) in
       omega arith);
-  depends = λ v w agree. (
-      let l = a.depends v w (all_left (λ p. v p ≡ w p) rs qs agree) in
-      let r = b.depends v w (all_right (λ p. v p ≡ w p) rs qs agree) in
-      rw (l, r) refl);
+  depends = λ v w agree. ap (λ x. F x (g v)) (a.depends v w (all_left (λ p. v p ≡ w p) rs qs agree)) ∙ ap (λ x. F (f w) x) (b.depends v w (all_right (λ p. v p ≡ w p) rs qs agree));
 }
 
-xor_is : (x y : Bool) → apply XorOp x y ≡ differ x y
+xor_is : (x y : Bool) → differ_bit x y ≡ differ x y
 xor_is true true = refl
 xor_is true false = refl
 xor_is false true = refl
 xor_is false false = refl
 
-differs : {t : Tree} {rs : List ℕ} {n : ℕ} (f g : (ℕ → Bool) → Bool) → Mirrors t (λ v. apply XorOp (f v) (g v)) rs n → Mirrors t (λ v. differ (f v) (g v)) rs n
+differs : {t : Tree} {rs : List ℕ} {n : ℕ} (f g : (ℕ → Bool) → Bool) → Mirrors t (λ v. differ_bit (f v) (g v)) rs n → Mirrors t (λ v. differ (f v) (g v)) rs n
 differs f g m = record {
   one = m.one;
-  same = λ v number. m.same v number ∙ xor_is (f (λ p. v (number (bit_of_port p)))) (g (λ p. v (number (bit_of_port p))));
+  same = λ v number e. m.same v number e ∙ xor_is (f (λ p. v (number (bit_of_port p)))) (g (λ p. v (number (bit_of_port p))));
   reads = m.reads;
   word = m.word;
   cheap = m.cheap;
@@ -127,17 +145,17 @@ layered (And a b) =
     rolled (And a.0 b.0) (binary AndOp (word_of a.0) (word_of b.0)) (λ v. value a.0 v && value b.0 v) (reads_of a.0 ++ reads_of b.0) (operators_of a.0 + operators_of b.0 + 1)
     (fold-roll-Expr Tree word_layer (And a.0 b.0)) (fold-roll-Expr ((ℕ → Bool) → Bool) value_layer (And a.0 b.0))
     (fold-roll-Expr (List ℕ) reads_layer (And a.0 b.0)) (fold-roll-Expr ℕ operators_layer (And a.0 b.0))
-    (binary_mirrors AndOp (word_of a.0) (word_of b.0) (value a.0) (value b.0) (reads_of a.0) (reads_of b.0) (operators_of a.0) (operators_of b.0) (omega arith) a.1 b.1)
+    (binary_mirrors AndOp (λ x y. x && y) and_placed (word_of a.0) (word_of b.0) (value a.0) (value b.0) (reads_of a.0) (reads_of b.0) (operators_of a.0) (operators_of b.0) a.1 b.1)
 layered (Or a b) =
     rolled (Or a.0 b.0) (binary OrOp (word_of a.0) (word_of b.0)) (λ v. value a.0 v || value b.0 v) (reads_of a.0 ++ reads_of b.0) (operators_of a.0 + operators_of b.0 + 1)
     (fold-roll-Expr Tree word_layer (Or a.0 b.0)) (fold-roll-Expr ((ℕ → Bool) → Bool) value_layer (Or a.0 b.0))
     (fold-roll-Expr (List ℕ) reads_layer (Or a.0 b.0)) (fold-roll-Expr ℕ operators_layer (Or a.0 b.0))
-    (binary_mirrors OrOp (word_of a.0) (word_of b.0) (value a.0) (value b.0) (reads_of a.0) (reads_of b.0) (operators_of a.0) (operators_of b.0) (omega arith) a.1 b.1)
+    (binary_mirrors OrOp (λ x y. x || y) or_placed (word_of a.0) (word_of b.0) (value a.0) (value b.0) (reads_of a.0) (reads_of b.0) (operators_of a.0) (operators_of b.0) a.1 b.1)
 layered (Xor a b) =
     rolled (Xor a.0 b.0) (binary XorOp (word_of a.0) (word_of b.0)) (λ v. differ (value a.0 v) (value b.0 v)) (reads_of a.0 ++ reads_of b.0) (operators_of a.0 + operators_of b.0 + 1)
     (fold-roll-Expr Tree word_layer (Xor a.0 b.0)) (fold-roll-Expr ((ℕ → Bool) → Bool) value_layer (Xor a.0 b.0))
     (fold-roll-Expr (List ℕ) reads_layer (Xor a.0 b.0)) (fold-roll-Expr ℕ operators_layer (Xor a.0 b.0))
-    (differs (value a.0) (value b.0) (binary_mirrors XorOp (word_of a.0) (word_of b.0) (value a.0) (value b.0) (reads_of a.0) (reads_of b.0) (operators_of a.0) (operators_of b.0) (omega arith) a.1 b.1))
+    (differs (value a.0) (value b.0) (binary_mirrors XorOp (λ x y. differ_bit x y) xor_placed (word_of a.0) (word_of b.0) (value a.0) (value b.0) (reads_of a.0) (reads_of b.0) (operators_of a.0) (operators_of b.0) a.1 b.1))
 
 pub mirrored : (e : Expr) → IsMirrored e
 mirrored = ind-Expr IsMirrored (λ x y is. subst (λ (z : Expr-F Expr). IsMirrored (roll-Expr z)) is (layered y))

@@ -8,10 +8,12 @@ use Rattle.eq_first.specs.declared.module.Port.{Port}
 use Rattle.eq_first.specs.Well.{Goes}
 use Rattle.eq_net.specs.declared.types.Dir.TheVariants.{Inner}
 use Rattle.eq_net.specs.declared.types.Driver.{Driver}
-use Rattle.eq_net.specs.declared.types.Driver.TheVariants.{Input as Outside}
+use Rattle.eq_net.specs.declared.types.Driver.TheVariants.{Undriven}
 use Rattle.eq_net.specs.declared.types.NetInfo.{NetInfo}
 use Rattle.eq_net.specs.Held.{input_count}
-use Rattle.eq_net.specs.Net.{bits_of, offset, number_of, side_of, side_at, width_at, dir_at}
+use Rattle.eq_model.specs.Nets.{Dir as Side, inner, at_bit}
+use Rattle.eq_net.specs.Nets.{side_of, width_of}
+use Rattle.eq_net.specs.Net.{bits_of, offset, number_of, net_at, nets_of}
 use Rattle.eqy.specs.Netlist.{dir_of, net_of, driver_of, driven_by, numbers_from}
 use Rattle.eqy.specs.Inputs.{counted, inputs_of}
 use Rattle.eqy.proofs.Mirrored.{bit_of_port}
@@ -39,10 +41,17 @@ goes_below [] d n g = absurd g
 goes_below (p ∷ ps) d zero g = omega arith
 goes_below (p ∷ ps) d (suc n) g = (let lt = goes_below ps d n g in omega arith)
 
-pub driver_at : (ps : List Port) (d : Direction) (n : ℕ) → Goes ps d n → slice_index_or (map driver_of ps) n Outside ≡ driven_by d
-driver_at [] d n g = absurd g
-driver_at (p ∷ ps) d zero g = ap driven_by g
-driver_at (p ∷ ps) d (suc n) g = driver_at ps d n g
+pub driver_there : (ps : List Port) (d : Direction) (n : ℕ) (x : Driver) → Goes ps d n → slice_index_or (map driver_of ps) n x ≡ driven_by d
+driver_there [] d n x g = absurd g
+driver_there (p ∷ ps) d zero x g = ap driven_by g
+driver_there (p ∷ ps) d (suc n) x g = driver_there ps d n x g
+
+pub driver_at : (ps : List Port) (d : Direction) (n : ℕ) → Goes ps d n → slice_index_or (map driver_of ps) n Undriven ≡ driven_by d
+driver_at ps d n g = driver_there ps d n Undriven g
+
+-- where bit b's net stands
+abbrev pub side_at : List NetInfo → ℕ → Side
+side_at nets b = at_bit inner (λ n place. n.dir) (nets_of nets) b
 
 pub side_at-ports : (ps : List Port) (d : Direction) (n : ℕ) → Goes ps d n → side_at (map net_of ps) n ≡ side_of (dir_of d)
 side_at-ports [] d n g = absurd g
@@ -52,12 +61,12 @@ side_at-ports (p ∷ ps) d (suc n) g =
     let e : suc n - 1 ≡ n = omega arith in
     ap (λ b. cond b (side_of (dir_of p.direction)) (side_at (map net_of ps) (suc n - 1))) later ∙ ap (side_at (map net_of ps)) e ∙ side_at-ports ps d n g
 
-pub dir_at-ports : (ps : List Port) (d : Direction) (n : ℕ) → Goes ps d n → dir_at (map net_of ps) n ≡ dir_of d
+pub dir_at-ports : (ps : List Port) (d : Direction) (n : ℕ) → Goes ps d n → (net_at (map net_of ps) n).dir ≡ dir_of d
 dir_at-ports [] d n g = absurd g
 dir_at-ports (p ∷ ps) d zero g = ap dir_of g
 dir_at-ports (p ∷ ps) d (suc n) g = dir_at-ports ps d n g
 
-pub width_at-ports : (ps : List Port) (n : ℕ) → n < length ps → width_at (map net_of ps) n ≡ 1
+pub width_at-ports : (ps : List Port) (n : ℕ) → n < length ps → width_of (net_at (map net_of ps) n) ≡ 1
 width_at-ports [] n lt = absurd (omega arith)
 width_at-ports (p ∷ ps) zero lt = refl
 width_at-ports (p ∷ ps) (suc n) lt = width_at-ports ps n (omega arith)

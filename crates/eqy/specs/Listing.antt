@@ -12,4 +12,4 @@ digits (suc n) k = (k % 2 == 1) ∷ digits n (k / 2)
 
 -- the values of the ports where the inputs have these values, in the order of the header
 abbrev pub given : List Port → List Bool → ℕ → Bool
-given ports inputs = values (held_bits (map driver_of ports) inputs)
+given ports inputs = values (held_bits (map driver_of ports) [] inputs)

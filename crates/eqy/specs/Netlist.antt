@@ -1,7 +1,8 @@
 -- The netlist of a design of the first form: a net of one bit for each port, and one word for the assignment.
-use Rattle.std.specs.Prelude.{ℕ, zero, suc, List, [], ◌∷◌, false}
+use Rattle.std.specs.Prelude.{ℕ, zero, suc, ◌+◌, List, [], ◌∷◌, None, false, length, map}
 use Rattle.eq_first.specs.declared.module.Direction.{Direction}
 use Rattle.eq_first.specs.declared.module.Direction.TheVariants.{Input, Output}
+use Rattle.eq_first.specs.declared.module.Module.{Module}
 use Rattle.eq_first.specs.declared.module.Port.{Port}
 use Rattle.eq_first.specs.declared.module.Expr.{Expr}
 use Rattle.eq_first.specs.declared.module.Expr.TheOpen.{Expr-F, Port as Named, Not, And, Xor, Or}
@@ -13,6 +14,8 @@ use Rattle.eq_net.specs.declared.types.Driver.{Driver}
 use Rattle.eq_net.specs.declared.types.Driver.TheVariants.{Input as Outside, Expr as WordBit}
 use Rattle.eq_net.specs.declared.types.NetInfo.{NetInfo}
 use Rattle.eq_net.specs.declared.types.WordOp.TheVariants.{And as AndOp, Or as OrOp, Xor as XorOp}
+use Rattle.eq_net.specs.Meaning.{cost_of}
+use Rattle.eq_net.specs.Net.{Parts}
 use Rattle.eq_net.specs.Tree.{Tree, read, negated, binary}
 
 abbrev pub dir_of : Direction → Dir
@@ -49,3 +52,14 @@ word_of = fold-Expr Tree word_layer
 abbrev pub numbers_from : ℕ → ℕ → List ℕ
 numbers_from first zero = []
 numbers_from first (suc n) = first ∷ numbers_from (suc first) n
+
+-- the netlist: the ports are its nets, in the order of the header
+abbrev pub first_parts : Module → Parts
+first_parts m = record {
+  nets = map net_of m.ports;
+  words = word_of m.expr ∷ [];
+  drivers = map driver_of m.ports;
+  ports = numbers_from 0 (length m.ports);
+  clock = None;
+  cost = (2 + length m.ports) + cost_of (word_of m.expr);
+}

@@ -8,7 +8,7 @@ ghost use Rattle.eq_net.specs.Tree.{tree_of, trees_of, negated as negated_tree, 
 ghost use Rattle.eqy.specs.NetlistOf.{IsNetlist};
 ghost use Rattle.eqy.specs.Netlist.{dir_of, driver_of, net_of, numbers_from, reads_port, word_of};
 
-use eq_base::Memory;
+use eq_base::{Boxed, Memory};
 use eq_first::{Direction, Expr, Module, Port};
 use eq_model::laws::ranked;
 use eq_names::BitName;
@@ -50,14 +50,14 @@ fn word(alloc: Global, expr: &Expr) -> Result<Word, Memory>
 fn negated(alloc: Global, operand: Word) -> Result<Word, Memory>
     ensures { IfOk result (λ word. tree_of word ≡ negated_tree (tree_of operand)) }
 {
-    Ok(Word::Not(Box::new(alloc, operand)?))
+    Ok(Word::Not(Boxed::new(alloc, operand)?))
 }
 
 fn binary(alloc: Global, op: WordOp, left: Word, right: Word) -> Result<Word, Memory>
     ensures { IfOk result (λ word. tree_of word ≡ binary_tree op (tree_of left) (tree_of right)) }
 {
-    let left = Box::new(alloc, left)?;
-    let right = Box::new(alloc, right)?;
+    let left = Boxed::new(alloc, left)?;
+    let right = Boxed::new(alloc, right)?;
     Ok(Word::Binary(op, left, right))
 }
 

@@ -25,7 +25,7 @@ use eq_first::Module;
 use eq_first::laws::{one_job, one_module};
 use eq_io::{Gate, Sink, SinkErr, Store};
 use eq_model::laws::{combinational, one_cycle, ranked};
-use eq_net::laws::words_make_a_system;
+use eq_net::laws::{net_is_design, words_make_a_system};
 use std::alloc::Global;
 use std::thread::Threads;
 
@@ -168,6 +168,7 @@ pub fn eqy<R: Threads + Sync, S: Store, O: Sink, G: Gate + Sync>(
     one_cycle();
     combinational();
     words_make_a_system();
+    net_is_design();
     match prepare(alloc, words, store) {
         Ok(task) => compare(alloc, out, &task),
         Err(Stop::Refused(refusal)) => refuse(alloc, out, &refusal),

@@ -1,9 +1,9 @@
-use Rattle.std.proofs.Common.{length, ap, sym, ◌∙◌}
-use Rattle.eq_net.proofs.Held.{initial_bits-none, register_count-none}
+use Rattle.std.proofs.Common.{List, length, ap, ◌∙◌}
+use Rattle.eq_net.specs.declared.types.Driver.{Driver}
+use Rattle.eq_net.specs.Held.{register_count}
+use Rattle.eq_net.proofs.Registers.{if_ok, length-initial_bits}
 use Rattle.eq_net.proofs.cycle.initial.Goals as goal
 
-pub returns-clause-values : goal.returns-clause-values
-returns-clause-values c = c.new.ensures ∙ sym (initial_bits-none c.args.net.now.drivers)
-
 pub returns-clause-size : goal.returns-clause-size
-returns-clause-size c = ap length c.new.ensures ∙ sym (register_count-none c.args.net.now.drivers)
+returns-clause-size c =
+    if_ok c.initial_values.result (λ state is. ap length is ∙ length-initial_bits c.as_slice.result.now ∙ ap (λ (ds : List Driver). register_count ds) c.as_slice.ensures) c.initial_values.ensures

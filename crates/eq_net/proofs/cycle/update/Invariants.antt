@@ -1,14 +1,12 @@
-use Rattle.std.proofs.Common.{◌≡◌, ℕ, ◌<◌, ◌≤◌, false}
+use Rattle.std.proofs.Common.{◌≡◌, ℕ, ◌<◌, ◌≤◌}
 use Rattle.eq_model.specs.Frames.{values}
 use Rattle.eq_model.specs.System.{compute}
 use Rattle.eq_net.specs.Net.{system_of}
-use Rattle.eq_net.specs.Tree.{trees_of}
+use Rattle.eq_net.specs.Whole.{parts_of}
 use Rattle.eq_net.proofs.cycle.update.Given as goal
 
 abbrev pub invariant-loop-b : goal.invariant-loop-b
 invariant-loop-b l = record {
-  computed : (k : ℕ) → k < l.b → values l.now k ≡
-      compute ((system_of l.net.nets (trees_of l.net.words) l.net.drivers).driver k) (values l.fn.now) (values l.fn.now k);
+  computed : (k : ℕ) → k < l.b → values l.now k ≡ compute ((system_of (parts_of l.net)).driver k) (values l.fn.now) (values l.fn.now k);
   rest : (k : ℕ) → l.b ≤ k → values l.now k ≡ values l.fn.now k;
-  unchanged : l.changed ≡ false → (k : ℕ) → k < l.b → values l.now k ≡ values l.fn.now k;
 }

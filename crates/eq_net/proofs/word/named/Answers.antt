@@ -1,5 +1,5 @@
 use Rattle.std.proofs.Common.{arith}
-use Rattle.eq_net.proofs.Designed.{bit_there}
+use Rattle.eq_net.proofs.Offsets.{bit_there}
 use Rattle.eq_net.proofs.word.named.Goals as goal
 
 pub bounds-now-starts : goal.bounds-now-starts

@@ -59,6 +59,6 @@ returns-in-Ok-clause-designs g c =
       task.gold,
       task.gate,
       c.in-Ok.ensures.ok files told,
-      designs_are c.ranked.ensures c.words_make_a_system.ensures c.combinational.ensures c.one_cycle.ensures verdict task.gold task.gate
-          c.in-Ok.ensures.ready.gold c.in-Ok.ensures.ready.gate c.in-Ok.ensures.ready.ports (c.compare.ensures.told verdict ends).0,
+      designs_are c.ranked.ensures c.words_make_a_system.ensures c.net_is_design.ensures c.combinational.ensures c.one_cycle.ensures verdict task.gold task.gate
+          c.in-Ok.ensures.ready.gold c.in-Ok.ensures.ready.gate c.in-Ok.ensures.ready.ports c.in-Ok.ensures.ready.narrow (c.compare.ensures.told verdict ends).0,
     )

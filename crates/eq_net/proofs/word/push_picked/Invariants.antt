@@ -1,0 +1,7 @@
+use Rattle.std.proofs.Common.{◌≡◌, ◌++◌, map, take}
+use Rattle.eq_model.specs.Frames.{frames}
+use Rattle.eq_net.specs.declared.types.WordBit.{WordBit}
+use Rattle.eq_net.proofs.word.push_picked.Given as goal
+
+abbrev pub invariant-loop-bit : goal.invariant-loop-bit
+invariant-loop-bit l = l.stack.items ≡ l.fn.stack.items ++ map (λ (b : WordBit). frames l.earlier b.word b.bit) (take l.bit-index l.bits)

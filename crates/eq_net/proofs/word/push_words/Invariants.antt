@@ -1,8 +1,0 @@
-use Rattle.eq_model.specs.Frames.{values}
-use Rattle.eq_net.specs.Net.{number_of}
-use Rattle.eq_net.specs.Stack.{HasWords}
-use Rattle.eq_net.specs.Tree.{trees_of}
-use Rattle.eq_net.proofs.word.push_words.Given as goal
-
-abbrev pub invariant-loop-word : goal.invariant-loop-word
-invariant-loop-word l = HasWords (values l.now) (number_of l.nets) (trees_of l.words) l.word-index l.begins.items l.stack.items

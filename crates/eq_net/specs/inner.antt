@@ -1,0 +1,4 @@
+-- Cited by proofs alone; nothing here has to be believed.
+pub mod Stack
+pub mod Gates
+pub mod Sized
