@@ -1,0 +1,6 @@
+pub mod Node
+pub mod Part
+pub mod Cycle
+pub mod Replay
+pub mod Shared
+pub mod inner

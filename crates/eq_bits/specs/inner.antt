@@ -1,0 +1,4 @@
+pub mod Building
+pub mod Computing
+pub mod PartProp
+pub mod Replaying
