@@ -1,0 +1,10 @@
+pub mod Assigning
+pub mod Counting
+pub mod InOrder
+pub mod NodeClauses
+pub mod OutputLiterals
+pub mod Replayed
+pub mod Satisfying
+pub mod Truth
+pub mod Witnesses
+pub mod WithinVariables

@@ -1,0 +1,4 @@
+pub mod Query
+pub mod Unrolling
+pub mod Values
+pub mod inner
