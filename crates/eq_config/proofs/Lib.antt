@@ -1,0 +1,11 @@
+pub mod DraftLemmas
+pub mod Ended
+pub mod FormLemmas
+pub mod Growing
+pub mod LineLemmas
+pub mod Numerals
+pub mod Passing
+pub mod Reached
+pub mod Refusals
+pub mod Uniqueness
+pub mod Verdicts

@@ -1,0 +1,10 @@
+pub mod Configs
+pub mod Entries
+pub mod Forms
+pub mod Headings
+pub mod Keywords
+pub mod Limits
+pub mod Lines
+pub mod Sections
+pub mod Words
+pub mod inner
