@@ -1,4 +1,7 @@
-//! What all crates share: want of memory, and lists that contracts see as lists.
+//! What all crates share: want of memory, and lists and boxes that contracts see as lists and as their values.
+//!
+//! The lowest crate. It has no function and no module: `Memory` is the standard library's error for want of memory, so
+//! that `?` needs no conversion; `Items` and `Boxed` are the kit's list and box; the other names are lists of them.
 #![tactic(auto)]
 
 pub use sqlite_items::{Boxed, Items};

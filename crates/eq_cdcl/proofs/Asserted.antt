@@ -1,13 +1,12 @@
 -- The kept literals, one place after the other, and what the learned clause says.
-use Rattle.std.proofs.Common.{◌≡◌, ◌≢◌, ℕ, ◌+◌, ◌-◌, ◌<◌, ◌≤◌, ◌↔◌, suc, zero, ◌⊎◌, inl, inr, Bool, true, false, IsTrue, List, [], ◌∷◌, ◌++◌, length, set, take, get_or, slice_get, Some, arith, refl, sym, ap, ◌∙◌, subst, get_or-set_other}
+use Rattle.std.proofs.Common.{◌≡◌, ℕ, ◌-◌, ◌<◌, ◌≤◌, suc, zero, ◌⊎◌, inl, inr, Bool, true, false, List, [], ◌∷◌, ◌++◌, length, set, take, get_or, slice_get, Some, arith, refl, sym, ap, ◌∙◌, subst, get_or-set_other}
 use Rattle.std.specs.Prelude.{All, Contains}
 use Rattle.std.proofs.lemmas.Bool.{cases_eq, cases_lt}
-use Rattle.std.proofs.lemmas.List.{length_push, take-take}
-use Rattle.std.proofs.lemmas.List.Elements.{All-push, All-nil, All-cons, All-contains, All-weaker, Contains-get_or, Contains-append_left, Contains-push}
+use Rattle.std.proofs.lemmas.List.{take-take}
+use Rattle.std.proofs.lemmas.List.Elements.{All-push, All-nil, All-contains, Contains-get_or, Contains-append_left}
 use Rattle.std.proofs.lemmas.Option.{slice_get_within}
 use Rattle.eq_proof.specs.Literal.{Literal, negation}
-use Rattle.eq_proof.specs.Sets.{IsConsistent, IsFalse, HasNoValue, IsFalsified, IsUnit}
-use Rattle.eq_proof.specs.Derivation.{HasNumber}
+use Rattle.eq_proof.specs.Sets.{IsFalse, IsFalsified, IsUnit}
 use Rattle.eq_proof.specs.Fresh.{IsSettled, IsFresh}
 use Rattle.eq_proof.proofs.Before.{get_left}
 use Rattle.eq_proof.proofs.Negations.{negation_twice}
@@ -17,9 +16,9 @@ use Rattle.eq_cdcl.specs.Resolved.{marked, opens}
 use Rattle.eq_cdcl.specs.Asserting.{Keeps, Settles, IsAsserting, Asserts}
 use Rattle.eq_cdcl.specs.declared.trail.Reason.{Reason}
 use Rattle.eq_cdcl.specs.declared.trail.Reason.TheVariants.{Decision, Implied}
-use Rattle.eq_cdcl.proofs.Places.{member_place, place_member, taken_member, member_taken, taken_place, same_place, element_at}
+use Rattle.eq_cdcl.proofs.Places.{taken_member, member_taken, taken_place, element_at}
 use Rattle.eq_cdcl.proofs.Sounds.{sound_cut}
-use Rattle.eq_cdcl.proofs.Counting.{opens_some, opens_outside}
+use Rattle.eq_cdcl.proofs.Counting.{opens_some}
 
 -- the unique implication point alone
 pub asserts_start : (lits : List Literal) (reasons : List Reason) (uip start : ℕ) (marks marks' : List Bool) (kept : List Literal) → marks' ≡ set marks uip false → Keeps lits uip [] kept → opens marks start uip ≡ 0 → start ≤ uip → slice_get reasons start ≡ Some Decision

@@ -1,18 +1,16 @@
 -- Logs of learned clauses, one step more.
-use Rattle.std.proofs.Common.{◌≡◌, ◌≢◌, ℕ, ◌+◌, ◌-◌, ◌<◌, ◌≤◌, suc, zero, ◌⊎◌, inl, inr, Bool, false, List, [], ◌∷◌, ◌++◌, length, map, take, get_or, slice_get, Some, arith, refl, sym, ap, ◌∙◌, subst, append_assoc}
-use Rattle.std.specs.Prelude.{All, Any, Contains}
+use Rattle.std.proofs.Common.{◌≡◌, ◌≢◌, ℕ, ◌+◌, ◌-◌, ◌<◌, ◌≤◌, suc, zero, inl, inr, Bool, false, List, [], ◌∷◌, ◌++◌, length, get_or, slice_get, Some, arith, sym, ap, ◌∙◌, subst, append_assoc}
+use Rattle.std.specs.Prelude.{All, Contains}
 use Rattle.std.proofs.lemmas.Bool.{cases_lt}
 use Rattle.std.proofs.lemmas.List.{length_push, take-append-le, take_all, map_push, get_or_append_left, append-nil, get_or-replicate, get_or_past, length-replicate}
-use Rattle.std.proofs.lemmas.List.Elements.{All-push, All-contains, Contains-get_or}
-use Rattle.std.proofs.lemmas.Option.{slice_get_within, slice_get-map}
+use Rattle.std.proofs.lemmas.List.Elements.{All-contains}
 use Rattle.eq_proof.specs.Literal.{Literal}
 use Rattle.eq_proof.specs.Inference.{Inference, clauses_of}
-use Rattle.eq_proof.specs.Satisfying.{MakesTrue, Satisfies, SatisfiesAll}
+use Rattle.eq_proof.specs.Satisfying.{SatisfiesAll}
 use Rattle.eq_proof.specs.Assigned.{AllBelow}
 use Rattle.eq_proof.specs.Derivation.{IsDerivation, clauses_before, DerivesAt, AllDerive, EndsEmpty}
 use Rattle.eq_proof.specs.Fresh.{IsFresh, FreshAt}
 use Rattle.eq_proof.proofs.Checking.{clause_at}
-use Rattle.eq_proof.proofs.Before.{get_left}
 use Rattle.eq_cdcl.specs.Knowledge.{known_of}
 use Rattle.std.proofs.Math.ListN.{replicate}
 use Rattle.eq_cdcl.specs.Resolved.{marked}

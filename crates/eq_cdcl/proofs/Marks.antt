@@ -1,21 +1,21 @@
 -- Marks of a clause's literals, one after the other, and what they say of the last level.
-use Rattle.std.proofs.Common.{◌≡◌, ◌≢◌, ℕ, ◌+◌, ◌-◌, ◌<◌, ◌≤◌, suc, zero, ◌⊎◌, inl, inr, Bool, true, false, List, [], ◌∷◌, ◌++◌, length, set, take, get_or, slice_get, Some, arith, refl, sym, ap, ◌∙◌, subst, get_or-set_same, get_or-set_other}
-use Rattle.std.specs.Prelude.{All, Contains}
+use Rattle.std.proofs.Common.{◌≡◌, ℕ, ◌+◌, ◌-◌, ◌<◌, ◌≤◌, suc, inl, inr, Bool, true, false, List, [], ◌∷◌, ◌++◌, length, set, take, get_or, slice_get, Some, arith, refl, sym, ap, ◌∙◌, subst, get_or-set_same, get_or-set_other}
+use Rattle.std.specs.Prelude.{All}
 use Rattle.std.proofs.lemmas.Bool.{cases_eq, cases_lt}
 use Rattle.std.proofs.lemmas.List.{length-set}
-use Rattle.std.proofs.lemmas.List.Elements.{All-push, All-nil, All-cons, All-weaker, All-head, Contains-get_or}
+use Rattle.std.proofs.lemmas.List.Elements.{All-push, All-nil, All-cons, All-weaker, All-head}
 use Rattle.std.proofs.lemmas.Option.{slice_get_within}
 use Rattle.eq_proof.specs.Literal.{Literal, negation}
-use Rattle.eq_proof.specs.Sets.{IsFalse, IsFalsified, IsUnit}
+use Rattle.eq_proof.specs.Sets.{IsFalsified, IsUnit}
 use Rattle.eq_proof.specs.Derivation.{HasNumber}
 use Rattle.eq_proof.specs.Fresh.{IsSettled}
 use Rattle.eq_proof.proofs.Lists.{All-at}
 use Rattle.eq_cdcl.specs.Assignment.{Assignment}
 use Rattle.eq_cdcl.specs.Slots.{HasVariable, IsAtPlace}
-use Rattle.eq_cdcl.specs.Sound.{AreApart, IsSound, IsExplained}
+use Rattle.eq_cdcl.specs.Sound.{AreApart, IsSound}
 use Rattle.eq_cdcl.specs.Resolved.{marked, opens, IsMarkedAt, MarksToo}
 use Rattle.eq_cdcl.specs.declared.trail.Reason.TheVariants.{Decision, Implied}
-use Rattle.eq_cdcl.proofs.Places.{member_place, place_member, taken_member, member_taken, same_place, element_at}
+use Rattle.eq_cdcl.proofs.Places.{member_place, taken_member, member_taken, same_place, element_at}
 use Rattle.eq_cdcl.proofs.Counting.{opens_some, opens_outside, opens_more, opens_hit}
 
 -- the place of a variable that has one below an end is there

@@ -1,14 +1,13 @@
 -- Variables without value, and the values of all.
-use Rattle.std.proofs.Common.{◌≡◌, ◌≢◌, ℕ, ◌+◌, ◌-◌, ◌<◌, ◌≤◌, ◌^◌, ◌↔◌, suc, zero, ◌⊎◌, inl, inr, Bool, true, false, not, Option, Some, None, List, [], ◌∷◌, ◌++◌, length, get_or, IsTrue, arith, refl, sym, ap, ◌∙◌, subst}
-use Rattle.std.specs.Prelude.{All, Contains}
+use Rattle.std.proofs.Common.{◌≡◌, ℕ, ◌+◌, ◌-◌, ◌<◌, ◌↔◌, ◌⊎◌, inl, inr, Bool, true, false, not, Option, Some, None, List, [], ◌∷◌, ◌++◌, length, IsTrue, arith, refl, sym, ap, ◌∙◌, subst}
+use Rattle.std.specs.Prelude.{Contains}
 use Rattle.std.proofs.lemmas.Bool.{cases_lt}
-use Rattle.std.proofs.lemmas.List.{get_or_append_left, get_or_push, length_push}
+use Rattle.std.proofs.lemmas.List.{get_or_append_left, get_or_push}
 use Rattle.eq_proof.specs.Literal.{Literal, negation, literal_is}
-use Rattle.eq_proof.specs.Sets.{IsConsistent, IsFalse, HasNoValue}
+use Rattle.eq_proof.specs.Sets.{IsConsistent, HasNoValue}
 use Rattle.eq_proof.proofs.Trails.{same_variable}
 use Rattle.eq_proof.proofs.Negations.{negation_twice}
-use Rattle.eq_cdcl.specs.Slots.{IsProper}
-use Rattle.eq_cdcl.specs.Halting.{AllHaveValues, GivesValues, value_in}
+use Rattle.eq_cdcl.specs.Halting.{AllHaveValues, GivesValues}
 
 -- a literal without value, or values for all variables so far
 abbrev pub IsOpening : ℕ → List Literal → ℕ → Option Literal → Type 0

@@ -1,18 +1,18 @@
 -- Conflict analysis, one place after the other.
-use Rattle.std.proofs.Common.{Ok, Err, Result, OnOk, ◌≡◌, ◌≢◌, ℕ, ◌+◌, ◌-◌, ◌<◌, ◌≤◌, suc, zero, ◌⊎◌, inl, inr, Bool, true, false, not, List, [], ◌∷◌, ◌++◌, length, map, set, take, reverse, get_or, slice_get, Some, arith, refl, sym, ap, ◌∙◌, subst, get_or-set_same, get_or-set_other}
-use Rattle.std.specs.Prelude.{All, Contains}
+use Rattle.std.proofs.Common.{Ok, Err, Result, OnOk, ◌≡◌, ◌≢◌, ℕ, ◌<◌, ◌≤◌, suc, inl, inr, Bool, true, false, not, List, [], ◌∷◌, ◌++◌, length, map, set, take, reverse, get_or, slice_get, Some, arith, refl, sym, ap, ◌∙◌, subst, get_or-set_same, get_or-set_other}
+use Rattle.std.specs.Prelude.{Contains}
 use Rattle.std.proofs.lemmas.Bool.{cases_eq}
-use Rattle.std.proofs.lemmas.List.{length-set, reverse-append, length-reverse, get_or-reverse}
+use Rattle.std.proofs.lemmas.List.{length-set, reverse-append}
 use Rattle.std.proofs.lemmas.List.Elements.{All-push, All-nil, All-contains, Contains-get_or, Contains-push, Contains-push_cases, Contains-append_left}
 use Rattle.std.proofs.lemmas.Option.{slice_get_within}
 use Rattle.eq_proof.specs.Literal.{Literal, negation}
-use Rattle.eq_proof.specs.Sets.{IsConsistent, IsFalse, HasNoValue, IsFalsified, IsUnit}
+use Rattle.eq_proof.specs.Sets.{IsFalsified, IsUnit}
 use Rattle.eq_proof.specs.Assigned.{AllBelow}
 use Rattle.eq_proof.specs.Derivation.{HasNumber, Refutes, IsDerivation}
 use Rattle.eq_proof.proofs.Negations.{negation_twice, from_negations, to_negations}
 use Rattle.eq_cdcl.specs.Sound.{AreApart}
 use Rattle.eq_cdcl.specs.Asserting.{Keeps}
-use Rattle.eq_cdcl.specs.Resolved.{marked, IsMarkedAt, MarksToo, IsEnough, IsResolved}
+use Rattle.eq_cdcl.specs.Resolved.{marked, MarksToo, IsResolved}
 use Rattle.eq_cdcl.proofs.Places.{member_place, place_member, taken_member, member_taken, same_place}
 
 wider : (lits : List Literal) (p : ℕ) (l : Literal) → Contains (take p lits) l → Contains (take (suc p) lits) l

@@ -1,18 +1,18 @@
 -- Trails with their slots: what a slot says, one literal more, one literal less.
-use Rattle.std.proofs.Common.{◌≡◌, ◌≢◌, ℕ, ◌+◌, ◌-◌, ◌<◌, ◌≤◌, ◌↔◌, suc, zero, ◌⊎◌, inl, inr, Bool, true, false, not, cond, List, [], ◌∷◌, ◌++◌, length, set, get_or, take, slice_get, Some, IsTrue, arith, refl, sym, ap, ◌∙◌, subst, get_or-set_same, get_or-set_other, length-append}
-use Rattle.std.specs.Prelude.{All, Contains, count_by}
+use Rattle.std.proofs.Common.{◌≡◌, ◌≢◌, ℕ, ◌<◌, ◌≤◌, ◌↔◌, suc, zero, inl, inr, Bool, true, false, not, cond, List, [], ◌∷◌, ◌++◌, length, set, get_or, slice_get, Some, IsTrue, arith, refl, sym, ap, ◌∙◌, subst, get_or-set_same, get_or-set_other}
+use Rattle.std.specs.Prelude.{All, Contains}
 use Rattle.std.proofs.lemmas.Bool.{cases_eq}
-use Rattle.std.proofs.lemmas.List.{length-set, length_push, take-append-le, take_all}
+use Rattle.std.proofs.lemmas.List.{length-set, length_push}
 use Rattle.std.proofs.lemmas.List.Elements.{All-push, All-contains, Contains-push}
 use Rattle.std.proofs.lemmas.List.Sums.{sum_by-set, count_by-le-length}
-use Rattle.std.proofs.lemmas.Option.{slice_get_within, get_or_from_slice_get}
+use Rattle.std.proofs.lemmas.Option.{slice_get_within}
 use Rattle.eq_proof.specs.Literal.{Literal, negation, literal_is}
 use Rattle.eq_proof.specs.Sets.{IsFalse, HasNoValue}
-use Rattle.eq_cdcl.specs.Slots.{IsTrail, HasValue, HasVariable, IsAtPlace, value_of, holds_of, is_taken}
+use Rattle.eq_cdcl.specs.Slots.{IsTrail, HasValue, value_of, holds_of, is_taken}
 use Rattle.eq_cdcl.specs.declared.trail.Reason.{Reason}
 use Rattle.eq_cdcl.specs.declared.trail.Slot.{Slot}
 use Rattle.eq_cdcl.specs.declared.trail.Slot.TheVariants.{Open, Taken}
-use Rattle.eq_cdcl.proofs.Places.{member_place, place_member, push_cases, push_old, push_last, same_place}
+use Rattle.eq_cdcl.proofs.Places.{member_place, place_member, push_cases, push_old, push_last}
 
 abbrev place_of : Slot → ℕ
 place_of Open = 0

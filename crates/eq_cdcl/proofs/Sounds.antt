@@ -1,18 +1,16 @@
 -- The trail's invariant: one literal more, a front alone, one clause more that is known.
-use Rattle.std.proofs.Common.{◌≡◌, ◌≢◌, ℕ, ◌+◌, ◌-◌, ◌<◌, ◌≤◌, suc, zero, ◌⊎◌, inl, inr, Bool, true, false, not, List, [], ◌∷◌, ◌++◌, length, take, slice_get, Some, arith, refl, sym, ap, ap₂, ◌∙◌, subst}
-use Rattle.std.specs.Prelude.{All, Contains}
+use Rattle.std.proofs.Common.{◌≡◌, ◌≢◌, ℕ, ◌<◌, ◌≤◌, inl, inr, Bool, true, false, not, List, [], ◌∷◌, ◌++◌, length, take, slice_get, Some, arith, refl, sym, ap, ap₂, ◌∙◌, subst}
+use Rattle.std.specs.Prelude.{Contains}
 use Rattle.std.proofs.lemmas.List.{length_push, take-append-le, take_all, take-take, length-take-le}
-use Rattle.std.proofs.lemmas.List.Elements.{All-push, All-take, All-contains}
+use Rattle.std.proofs.lemmas.List.Elements.{All-push, All-take}
 use Rattle.std.proofs.lemmas.Option.{slice_get_within}
 use Rattle.eq_proof.specs.Literal.{Literal, negation}
-use Rattle.eq_proof.specs.Sets.{IsConsistent, IsFalse, HasNoValue, IsUnit}
-use Rattle.eq_proof.specs.Fresh.{IsSettled}
+use Rattle.eq_proof.specs.Sets.{IsConsistent, HasNoValue}
 use Rattle.eq_proof.proofs.Trails.{same_variable}
 use Rattle.eq_cdcl.specs.Assignment.{Assignment, extended, cut_to}
 use Rattle.eq_cdcl.specs.Sound.{AreApart, IsExplained, IsSound}
 use Rattle.eq_cdcl.specs.declared.trail.Reason.{Reason}
-use Rattle.eq_cdcl.specs.declared.trail.Reason.TheVariants.{Decision, Implied}
-use Rattle.eq_cdcl.proofs.Places.{member_place, place_member, push_cases, push_old, push_last, taken_place, place_taken, same_place}
+use Rattle.eq_cdcl.proofs.Places.{member_place, place_member, push_cases, taken_place, same_place}
 
 not_itself : (b : Bool) → b ≡ not b → ⊥
 not_itself true e = absurd (cc)

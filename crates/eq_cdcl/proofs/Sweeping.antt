@@ -1,24 +1,20 @@
 -- A sweep over all clauses.
-use Rattle.std.proofs.Common.{◌≡◌, ◌≢◌, ℕ, ◌+◌, ◌-◌, ◌<◌, ◌≤◌, suc, zero, ◌⊎◌, inl, inr, Bool, true, false, List, [], ◌∷◌, ◌++◌, length, take, get_or, slice_get, Some, arith, refl, sym, ap, ◌∙◌, subst}
-use Rattle.std.specs.Prelude.{All, Contains, MatchBool}
+use Rattle.std.proofs.Common.{◌≡◌, ℕ, ◌+◌, ◌-◌, ◌<◌, ◌≤◌, Bool, true, false, List, length, take, slice_get, Some, arith, refl, sym, ap, ◌∙◌, subst}
+use Rattle.std.specs.Prelude.{All, MatchBool}
 use Rattle.std.proofs.lemmas.List.{length_push, take_all}
-use Rattle.std.proofs.lemmas.List.Elements.{All-push, All-more, All-weaker, All-contains, All-nil}
+use Rattle.std.proofs.lemmas.List.Elements.{All-more, All-weaker, All-nil}
 use Rattle.std.proofs.lemmas.Option.{slice_get_within, get_or_from_slice_get}
 use Rattle.eq_proof.specs.Literal.{Literal}
 use Rattle.eq_proof.specs.Sets.{IsFalsified, IsUnit}
-use Rattle.eq_proof.specs.Assigned.{AllBelow}
 use Rattle.eq_proof.specs.Derivation.{HasNumber}
-use Rattle.eq_proof.specs.Fresh.{IsSettled}
-use Rattle.eq_proof.proofs.Lists.{All-at}
 use Rattle.eq_cdcl.specs.Assignment.{Assignment, extended}
 use Rattle.eq_cdcl.specs.Judged.{IsJudged, IsLive}
 use Rattle.eq_cdcl.specs.Sound.{IsSound}
-use Rattle.eq_cdcl.specs.Found.{IsConflict, IsQuiet}
+use Rattle.eq_cdcl.specs.Found.{IsQuiet}
 use Rattle.eq_cdcl.specs.Sweeps.{FindsInSweep}
 use Rattle.eq_cdcl.specs.declared.judgement.Judgement.TheVariants.{Idle}
 use Rattle.eq_cdcl.specs.declared.propagation.Swept.{Swept}
 use Rattle.eq_cdcl.specs.declared.propagation.Swept.TheVariants.{Changed, Settled}
-use Rattle.eq_cdcl.specs.declared.trail.Reason.{Reason}
 use Rattle.eq_cdcl.specs.declared.trail.Reason.TheVariants.{Implied}
 use Rattle.eq_cdcl.proofs.Sounds.{sound_extended, apart_consistent}
 

@@ -1,9 +1,6 @@
 -- What the solver's answers show.
-use Rattle.std.specs.Prelude.{◌≡◌, ◌≢◌, ℕ, ◌<◌, Bool, List, [], length, slice_get, Some}
-use Rattle.eq_proof.specs.Literal.{Literal}
+use Rattle.std.specs.Prelude.{Bool, List}
 use Rattle.eq_proof.specs.Inference.{Inference}
-use Rattle.eq_proof.specs.Derivation.{AllDerive}
-use Rattle.eq_proof.specs.Fresh.{FreshAt}
 use Rattle.eq_cdcl.specs.declared.solver.Solved.{Solved}
 use Rattle.eq_cdcl.specs.declared.solver.Solved.TheVariants.{Sat, Unsat, Spent}
 

@@ -2,7 +2,7 @@
 use Rattle.std.specs.Prelude.{◌≡◌, ◌≢◌, ℕ, ◌<◌, List, [], length, slice_get, Some}
 use Rattle.eq_proof.specs.Literal.{Literal}
 use Rattle.eq_proof.specs.Inference.{Inference}
-use Rattle.eq_proof.specs.Derivation.{AllDerive, DerivesAt}
+use Rattle.eq_proof.specs.Derivation.{AllDerive}
 use Rattle.eq_proof.specs.Fresh.{FreshAt}
 
 -- the step at a place has a clause that isn't empty

@@ -1,5 +1,5 @@
 -- A trail kept with a slot for each variable, which says where its literal stands.
-use Rattle.std.specs.Prelude.{◌≡◌, ◌≢◌, ℕ, ◌<◌, ◌^◌, Bool, true, false, List, length, All, Contains, count_by, slice_get, Some, slice_index_or}
+use Rattle.std.specs.Prelude.{◌≡◌, ℕ, ◌<◌, ◌^◌, Bool, true, false, List, length, All, Contains, count_by, slice_get, Some, slice_index_or}
 use Rattle.eq_proof.specs.Literal.{Literal}
 use Rattle.eq_proof.specs.Sets.{IsFalse, HasNoValue}
 use Rattle.eq_cdcl.specs.declared.trail.Reason.{Reason}

@@ -51,33 +51,55 @@ pub fn solve(alloc: Global, f: &Formula, budget: u64) -> Result<Solved, Memory>
 {
     let size = f.vars as usize + 1;
     let mut trail = Trail::new(alloc, size)?;
-    let mut marks = unmarked(alloc, size)?;
+    let marks = unmarked(alloc, size)?;
     let mut activity = Activity::new(alloc, size)?;
-    let mut log = Log::new(alloc);
+    let log = Log::new(alloc);
+    run(alloc, f, budget, &mut trail, &mut activity, marks, log)
+}
+
+// Searches on from a trail and a log.
+fn run(
+    alloc: Global,
+    f: &Formula,
+    budget: u64,
+    trail: &mut Trail,
+    activity: &mut Activity,
+    mut marks: Bits,
+    mut log: Log,
+) -> Result<Solved, Memory>
+    requires few { budget ≤ 1_000_000 }
+    requires size { trail.old.size ≡ f.now.vars + 1 }
+    requires sound { IsSound (known_of f.now.clauses log) trail.old }
+    requires below { All (AllBelow trail.old.size) (known_of f.now.clauses log) }
+    requires clear { (p : ℕ) → marked marks p ≡ false }
+    requires room { length marks ≡ trail.old.size }
+    requires logged { IsLogged f.now.clauses log }
+    requires within { length log ≤ budget }
+    ensures sat_len { IfOk result (λ solved. IfSat solved (λ bits. length bits ≡ f.now.vars)) }
+    ensures sat_satisfies { IfOk result (λ solved. IfSat solved (λ bits. SatisfiesAll (value_in bits) f.now.clauses)) }
+    ensures unsat_derives { IfOk result (λ solved. IfUnsat solved (λ log. AllDerive f.now.clauses log)) }
+    ensures unsat_ends { IfOk result (λ solved. IfUnsat solved (λ log. EndsEmpty log)) }
+    ensures unsat_fresh { IfOk result (λ solved. IfUnsat solved (λ log. FreshBelow f.now.clauses log (length log - 1))) }
+    ensures unsat_within { IfOk result (λ solved. IfUnsat solved (λ log. length log ≤ budget + 1)) }
+    ensures spent_derives { IfOk result (λ solved. IfSpent solved (λ log. AllDerive f.now.clauses log)) }
+    ensures spent_fresh { IfOk result (λ solved. IfSpent solved (λ log. FreshBelow f.now.clauses log (length log))) }
+    ensures spent_exact { IfOk result (λ solved. IfSpent solved (λ log. length log ≡ budget)) }
+{
     loop {
         let known = Known::new(f, &log);
-        let conflict = match search(&mut trail, &known, &activity, f.vars)? {
-            Halt::Satisfied => return Ok(Solved::Sat(values(alloc, &trail, f.vars)?)),
+        let conflict = match search(trail, &known, activity, f.vars)? {
+            Halt::Satisfied => return Ok(Solved::Sat(values(alloc, trail, f.vars)?)),
             Halt::Conflict(number) => number,
         };
-        let Some(start) = last_decision(&trail) else {
-            let step = refute(alloc, &trail, &known, marks, conflict)?;
+        let Some(start) = last_decision(trail) else {
+            let step = refute(alloc, trail, &known, marks, conflict)?;
             log.push(step)?;
             return Ok(Solved::Unsat(log));
         };
         if u64::from(log.len()) == budget {
             return Ok(Solved::Spent(log));
         }
-        marks = go_back(
-            alloc,
-            f,
-            &mut trail,
-            &mut activity,
-            &mut log,
-            marks,
-            conflict,
-            start,
-        )?;
+        marks = go_back(alloc, f, trail, activity, &mut log, marks, conflict, start)?;
     }
 }
 

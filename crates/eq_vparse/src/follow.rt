@@ -1,11 +1,12 @@
 //! What stands behind an operand.
 
+ghost use Rattle.std.specs.Prelude.{[], ◌∷◌, ◌++◌};
 ghost use Rattle.eq_vparse.specs.Operators.{binary_of};
 ghost use Rattle.eq_vparse.specs.Reading.{Reads};
 ghost use Rattle.eq_vparse.specs.Machine as spec;
 
 use crate::cursor::Cursor;
-use crate::machine::{State, Step, Waiting, wait};
+use crate::machine::{State, Step, Waiting, wait, waits};
 use crate::operator::{binary, strength};
 use crate::pending::{Pending, reduce};
 use crate::stop::Stop;
@@ -33,15 +34,14 @@ fn otherwise(
     cursor: &mut Cursor<'_>,
     condition: Expr,
     expr: Expr,
-    mut waiting: Waiting,
+    waiting: Waiting,
 ) -> Result<Step, Stop>
     ensures { Reads result cursor.new (spec.otherwise_at condition expr waiting cursor.old) }
 {
     match cursor.peek() {
         Some(TokenKind::Mark(Mark::Colon)) => {
             cursor.advance();
-            waiting.stack.push(Pending::Otherwise(condition, expr))?;
-            Ok(Step::More(State::Wanted(waiting)))
+            Ok(waits(Pending::Otherwise(condition, expr), waiting)?)
         }
         _ => Err(cursor.wrong()),
     }
@@ -109,6 +109,35 @@ fn after_repeated(
     }
 }
 
+/// Takes what stands behind a concatenation's last part.
+#[tactic(auto)]
+fn with_part(
+    cursor: &mut Cursor<'_>,
+    mut parts: Exprs,
+    expr: Expr,
+    waiting: Waiting,
+) -> Result<Step, Stop>
+    ensures { Reads result cursor.new (spec.parts_at (parts ++ expr ∷ []) waiting cursor.old) }
+{
+    parts.push(expr)?;
+    after_part(cursor, parts, waiting)
+}
+
+/// Takes what stands behind a repetition's last part.
+#[tactic(auto)]
+fn with_repeated(
+    cursor: &mut Cursor<'_>,
+    times: u32,
+    mut parts: Exprs,
+    expr: Expr,
+    waiting: Waiting,
+) -> Result<Step, Stop>
+    ensures { Reads result cursor.new (spec.repeated_at times (parts ++ expr ∷ []) waiting cursor.old) }
+{
+    parts.push(expr)?;
+    after_repeated(cursor, times, parts, waiting)
+}
+
 /// Closes what stands on the stack, or ends the expression where nothing is open.
 #[tactic(auto, unfolding(crate::specs::Machine::close_at))]
 fn close(cursor: &mut Cursor<'_>, expr: Expr, mut waiting: Waiting) -> Result<Step, Stop>
@@ -118,14 +147,8 @@ fn close(cursor: &mut Cursor<'_>, expr: Expr, mut waiting: Waiting) -> Result<St
         None => Ok(Step::Whole(expr)),
         Some(Pending::Group) => group(cursor, expr, waiting),
         Some(Pending::Choice(condition)) => otherwise(cursor, condition, expr, waiting),
-        Some(Pending::Parts(mut parts)) => {
-            parts.push(expr)?;
-            after_part(cursor, parts, waiting)
-        }
-        Some(Pending::Repeated(times, mut parts)) => {
-            parts.push(expr)?;
-            after_repeated(cursor, times, parts, waiting)
-        }
+        Some(Pending::Parts(parts)) => with_part(cursor, parts, expr, waiting),
+        Some(Pending::Repeated(times, parts)) => with_repeated(cursor, times, parts, expr, waiting),
         Some(Pending::Operator(_operator)) => Err(cursor.wrong()),
         Some(Pending::Left(_operator, _left)) => Err(cursor.wrong()),
         Some(Pending::Otherwise(_condition, _chosen)) => Err(cursor.wrong()),

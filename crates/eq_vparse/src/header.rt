@@ -14,7 +14,7 @@ use eq_vlex::{Constant, Key, Mark};
 use std::alloc::Global;
 
 /// How a header declares a port.
-#[derive(Clone, Copy, Debug, PartialEq, Eq)]
+#[derive(Clone, Copy, PartialEq, Eq)]
 pub(crate) enum PortKind {
     Input,
     Output,

@@ -1,5 +1,6 @@
 //! What the reading of an expression keeps between two steps.
 
+ghost use Rattle.std.specs.Prelude.{◌≡◌, ◌∷◌, IfOk};
 ghost use Rattle.eq_vparse.specs.Reading.{Reads};
 ghost use Rattle.eq_vparse.specs.Machine as spec;
 
@@ -7,6 +8,7 @@ use crate::cursor::Cursor;
 use crate::pending::{Pending, Stack};
 use crate::stop::Stop;
 use crate::tree::Expr;
+use eq_base::Memory;
 
 /// What waits, and how many counted marks may still be taken.
 #[derive(Drop)]
@@ -43,17 +45,23 @@ pub(crate) fn counted(cursor: &mut Cursor<'_>, room: u32) -> Result<u32, Stop>
     Ok(room - 1)
 }
 
+/// Behind what was taken this waits.
+pub(crate) fn waits(pending: Pending, mut waiting: Waiting) -> Result<Step, Memory>
+    ensures { IfOk result (λ step. step ≡ spec.wanted waiting.room (pending ∷ waiting.stack)) }
+{
+    waiting.stack.push(pending)?;
+    Ok(Step::More(State::Wanted(waiting)))
+}
+
 /// Takes a counted mark, behind which this waits.
 #[tactic(auto, unfolding(crate::specs::Machine::wait_at))]
 pub(crate) fn wait(
     cursor: &mut Cursor<'_>,
     pending: Pending,
-    waiting: Waiting,
+    mut waiting: Waiting,
 ) -> Result<Step, Stop>
     ensures { Reads result cursor.new (spec.wait_at pending waiting cursor.old) }
 {
-    let Waiting { room, mut stack } = waiting;
-    let room = counted(cursor, room)?;
-    stack.push(pending)?;
-    Ok(Step::More(State::Wanted(Waiting { room, stack })))
+    waiting.room = counted(cursor, waiting.room)?;
+    Ok(waits(pending, waiting)?)
 }

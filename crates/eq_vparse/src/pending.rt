@@ -1,6 +1,7 @@
 //! What waits for an operand while an expression is read.
 
 ghost use Rattle.std.specs.Prelude.{◌≡◌, [], ◌∷◌, IfOk, OnOk, MatchOption};
+ghost use Rattle.eq_vparse.specs.declared.tree.Expr.TheViews.{Binary, Cond};
 ghost use Rattle.eq_vparse.specs.Pendings.{binding as binding_lem, applied as applied_lem, reduce as reduce_lem};
 
 use crate::operator::strength;
@@ -80,21 +81,29 @@ fn binding(pending: &Pending) -> u8
     }
 }
 
+fn binary(alloc: Global, operator: BinOp, left: Expr, right: Expr) -> Result<Expr, Memory>
+    ensures { IfOk result (λ e. e ≡ Binary operator left right) }
+{
+    let left = Boxed::new(alloc, left)?;
+    Ok(Expr::Binary(operator, left, Boxed::new(alloc, right)?))
+}
+
+fn choice(alloc: Global, condition: Expr, chosen: Expr, other: Expr) -> Result<Expr, Memory>
+    ensures { IfOk result (λ e. e ≡ Cond condition chosen other) }
+{
+    let condition = Boxed::new(alloc, condition)?;
+    let chosen = Boxed::new(alloc, chosen)?;
+    Ok(Expr::Cond(condition, chosen, Boxed::new(alloc, other)?))
+}
+
 /// The expression that it makes of its operand.
 fn applied(alloc: Global, pending: Pending, operand: Expr) -> Result<Expr, Memory>
     ensures { IfOk result (λ e. e ≡ applied_lem pending operand) }
 {
     match pending {
         Pending::Operator(operator) => Ok(Expr::Unary(operator, Boxed::new(alloc, operand)?)),
-        Pending::Left(operator, left) => {
-            let left = Boxed::new(alloc, left)?;
-            Ok(Expr::Binary(operator, left, Boxed::new(alloc, operand)?))
-        }
-        Pending::Otherwise(condition, chosen) => {
-            let condition = Boxed::new(alloc, condition)?;
-            let chosen = Boxed::new(alloc, chosen)?;
-            Ok(Expr::Cond(condition, chosen, Boxed::new(alloc, operand)?))
-        }
+        Pending::Left(operator, left) => binary(alloc, operator, left, operand),
+        Pending::Otherwise(condition, chosen) => choice(alloc, condition, chosen, operand),
         Pending::Group => Ok(operand),
         Pending::Choice(_condition) => Ok(operand),
         Pending::Parts(_parts) => Ok(operand),

@@ -7,7 +7,7 @@ use crate::tree::{BinOp, Expr, UnOp};
 use eq_vlex::Mark;
 
 /// What stands outermost in an expression.
-#[derive(Clone, Copy, Debug, PartialEq, Eq)]
+#[derive(Clone, Copy, PartialEq, Eq)]
 pub(crate) enum Form {
     Constant,
     /// A name, a bit, a part, a concatenation or a repeat.

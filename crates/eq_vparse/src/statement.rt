@@ -13,6 +13,15 @@ use eq_base::{Boxed, Items, Memory};
 use eq_vlex::{Key, Mark, TokenKind};
 use std::alloc::Global;
 
+fn boxed(alloc: Global, stmt: Option<Stmt>) -> Result<Option<Boxed<Stmt>>, Memory>
+    ensures { IfOk result (λ same. same ≡ stmt) }
+{
+    match stmt {
+        Some(stmt) => Ok(Some(Boxed::new(alloc, stmt)?)),
+        None => Ok(None),
+    }
+}
+
 /// `if (condition) then`, with `otherwise` behind its `else`.
 fn branching(
     alloc: Global,
@@ -23,10 +32,7 @@ fn branching(
     ensures { IfOk result (λ s. s ≡ spec.branching condition then otherwise) }
 {
     let then = Boxed::new(alloc, then)?;
-    match otherwise {
-        Some(other) => Ok(Stmt::If(condition, then, Some(Boxed::new(alloc, other)?))),
-        None => Ok(Stmt::If(condition, then, None)),
-    }
+    Ok(Stmt::If(condition, then, boxed(alloc, otherwise)?))
 }
 
 impl Cursor<'_> {

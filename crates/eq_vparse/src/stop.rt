@@ -15,7 +15,7 @@ pub enum ParseErr {
 }
 
 /// What stops the reading of a phrase. A place is the number of tokens from it to the end.
-#[derive(Clone, Copy, Debug, PartialEq, Eq)]
+#[derive(Clone, Copy, PartialEq, Eq)]
 pub(crate) enum Stop {
     Syntax { left: usize },
     TooDeep { left: usize },

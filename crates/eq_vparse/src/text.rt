@@ -13,7 +13,7 @@ use eq_vlex::{Constant, Key, Mark};
 use std::alloc::Global;
 
 /// Tokens that stand one behind the other, with a space between two words.
-#[derive(Debug, Drop)]
+#[derive(Drop)]
 pub(crate) struct Text {
     pub bytes: Bytes,
     /// The last token is a word without a space of its own.

@@ -5,13 +5,13 @@ use eq_names::Name;
 use eq_vlex::Constant;
 
 /// The modules of a text, in its order.
-#[derive(Debug, Drop)]
+#[derive(Drop)]
 pub struct Source {
     pub modules: Modules,
 }
 
 /// A module. Its header's ports stand in `ports` by name; what the header declares stands first in `items`.
-#[derive(Debug, Drop)]
+#[derive(Drop)]
 pub struct Module {
     pub name: Name,
     pub ports: Names,
@@ -48,7 +48,7 @@ pub enum GateKind {
 
 /// One thing that a module declares, drives, instantiates or runs. What names several things in the text, as
 /// `wire a, b = c;`, is one item for each.
-#[derive(Debug, Drop)]
+#[derive(Drop)]
 pub enum Item {
     Decl {
         kind: DeclKind,
@@ -82,20 +82,20 @@ pub enum Item {
 }
 
 /// The connections of an instance. An instance without any has a named list of none.
-#[derive(Debug, Drop)]
+#[derive(Drop)]
 pub enum Conns {
     ByOrder(MaybeExprs),
     ByName(Nameds),
 }
 
 /// `.port(expr)` or `.port()`.
-#[derive(Debug, Drop)]
+#[derive(Drop)]
 pub struct Named {
     pub port: Name,
     pub expr: Option<Expr>,
 }
 
-#[derive(Debug, Drop)]
+#[derive(Drop)]
 pub enum Stmt {
     /// `;`
     Empty,
@@ -108,7 +108,7 @@ pub enum Stmt {
 }
 
 /// What is driven: a net, a bit or a part of it, or a concatenation, its first part with the highest bits.
-#[derive(Debug, Drop)]
+#[derive(Drop)]
 pub enum Target {
     Net(Name),
     Bit(Name, u32),
@@ -161,7 +161,7 @@ pub enum BinOp {
     LogOr,
 }
 
-#[derive(Debug, Drop)]
+#[derive(Drop)]
 pub enum Expr {
     Const(Constant),
     Net(Name),

@@ -1,10 +1,9 @@
-use Rattle.std.proofs.Common.{◌≡◌, ◌+◌, ◌<◌, ◌≤◌, arith, inl, inr, length, take, List, Option, None, Some, sym, ap, ◌∙◌, subst}
+use Rattle.std.proofs.Common.{arith, inl, inr, take, List, Option, subst}
 use Rattle.std.proofs.lemmas.List.{take_all}
 use Rattle.eq_proof.specs.Literal.{Literal}
 use Rattle.eq_proof.specs.Judgement.{IsSeen}
 use Rattle.eq_proof.specs.Sets.{IsFalsified, IsUnit}
 use Rattle.eq_proof.proofs.Judging.{taken_more, read_member, seen_false, seen_first, idle_true, idle_two, differs, in_whole}
-use Rattle.eq_cdcl.specs.Judged.{IsProperOption}
 use Rattle.eq_cdcl.proofs.judgement.judge.Goals as goal
 use Rattle.eq_cdcl.proofs.judgement.judge.Goals.{in-False, in-Unassigned+in-None}
 

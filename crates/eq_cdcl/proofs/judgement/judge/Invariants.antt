@@ -1,4 +1,4 @@
-use Rattle.std.proofs.Common.{take, Option, None, Some}
+use Rattle.std.proofs.Common.{take}
 use Rattle.eq_proof.specs.Judgement.{IsSeen}
 use Rattle.eq_cdcl.specs.Judged.{IsProperOption}
 use Rattle.eq_cdcl.proofs.judgement.judge.Given as goal

@@ -1,4 +1,4 @@
-use Rattle.std.proofs.Common.{◌≡◌, ◌≤◌, [], ℕ, List, Bool, suc, reverse, sym, ap, subst, ◌∙◌}
+use Rattle.std.proofs.Common.{[], ℕ, List, sym, subst}
 use Rattle.std.specs.Prelude.{Contains}
 use Rattle.eq_proof.specs.Literal.{Literal}
 use Rattle.eq_proof.specs.Inference.{Inference}

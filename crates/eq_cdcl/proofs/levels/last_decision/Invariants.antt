@@ -1,4 +1,4 @@
-use Rattle.std.proofs.Common.{◌≡◌, ◌≢◌, ℕ, ◌≤◌, slice_get, Some}
+use Rattle.std.proofs.Common.{◌≢◌, ℕ, ◌≤◌, slice_get, Some}
 use Rattle.eq_cdcl.specs.declared.trail.Reason.TheVariants.{Decision}
 use Rattle.eq_cdcl.proofs.levels.last_decision.Given as goal
 

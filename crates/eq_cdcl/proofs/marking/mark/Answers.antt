@@ -1,7 +1,5 @@
-use Rattle.std.proofs.Common.{◌≡◌, ◌<◌, ◌≤◌, ◌+◌, Bool, true, false, List, length, set, slice_get, arith, sym, ◌∙◌, ap, subst, inl}
+use Rattle.std.proofs.Common.{true, arith, sym, inl}
 use Rattle.std.proofs.lemmas.Option.{slice_get_within}
-use Rattle.eq_proof.specs.Literal.{Literal}
-use Rattle.eq_cdcl.specs.Resolved.{marked, opens, MarksToo}
 use Rattle.eq_cdcl.proofs.Counting.{opens_outside}
 use Rattle.eq_cdcl.proofs.Marks.{place_below, marked_now, counted_now}
 use Rattle.eq_cdcl.proofs.marking.mark.Goals as goal

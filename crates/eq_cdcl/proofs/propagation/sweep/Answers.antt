@@ -1,10 +1,8 @@
-use Rattle.std.proofs.Common.{◌≡◌, ℕ, ◌+◌, ◌<◌, ◌≤◌, arith, length, List, refl, sym, ap, ◌∙◌, subst}
-use Rattle.std.specs.Prelude.{Contains, All}
+use Rattle.std.proofs.Common.{◌<◌, arith}
 use Rattle.std.proofs.lemmas.List.Elements.{All-contains}
-use Rattle.eq_proof.specs.Literal.{Literal}
 use Rattle.eq_proof.specs.Assigned.{AllBelow}
 use Rattle.eq_proof.proofs.Lists.{All-at}
-use Rattle.eq_cdcl.proofs.Sweeping.{IsSwept, swept_start, swept_unit, swept_idle, swept_all, number_at}
+use Rattle.eq_cdcl.proofs.Sweeping.{swept_start, swept_unit, swept_idle, swept_all, number_at}
 use Rattle.eq_cdcl.proofs.propagation.sweep.Goals as goal
 use Rattle.eq_cdcl.proofs.propagation.sweep.Goals.{in-Propagates+in_ok-assign-in-Propagates, in-Idle}
 

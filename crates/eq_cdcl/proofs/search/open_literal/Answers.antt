@@ -1,6 +1,5 @@
-use Rattle.std.proofs.Common.{◌≡◌, ◌≤◌, ◌+◌, ◌<◌, ◌⊎◌, Some, length, arith, rules, Option, subst, sym}
+use Rattle.std.proofs.Common.{◌+◌, Some, arith, Option, subst, sym}
 use Rattle.eq_proof.specs.Literal.{Literal}
-use Rattle.eq_proof.specs.Sets.{HasNoValue}
 use Rattle.eq_cdcl.proofs.Opening.{IsOpening, opening_found, opening_taken}
 use Rattle.eq_cdcl.proofs.search.open_literal.Goals as goal
 use Rattle.eq_cdcl.proofs.search.open_literal.Goals.{in-Unassigned, in-True, in-False}

@@ -1,5 +1,5 @@
-use Rattle.std.proofs.Common.{◌≡◌, ◌≤◌, ◌+◌, ◌<◌, length, arith, rules, subst, sym, ap, ◌∙◌}
-use Rattle.eq_cdcl.specs.Assignment.{Assignment, extended}
+use Rattle.std.proofs.Common.{subst, sym, ap, ◌∙◌}
+use Rattle.eq_cdcl.specs.Assignment.{Assignment}
 use Rattle.eq_cdcl.specs.Sound.{IsSound}
 use Rattle.eq_cdcl.specs.Found.{IsQuiet, Finds}
 use Rattle.eq_cdcl.specs.declared.trail.Reason.TheVariants.{Decision}

@@ -1,6 +1,5 @@
-use Rattle.std.proofs.Common.{◌≡◌, ◌≤◌, ◌+◌, length, arith}
+use Rattle.std.proofs.Common.{arith}
 use Rattle.std.proofs.lemmas.List.{length_push}
-use Rattle.eq_cdcl.specs.Halting.{GivesValues}
 use Rattle.eq_cdcl.proofs.Opening.{values_more}
 use Rattle.eq_cdcl.proofs.search.values.Goals as goal
 

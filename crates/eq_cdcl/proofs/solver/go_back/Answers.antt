@@ -1,20 +1,17 @@
-use Rattle.std.proofs.Common.{◌≡◌, ◌≤◌, ◌<◌, ◌+◌, ◌-◌, ◌++◌, ◌∷◌, [], ℕ, List, length, sym, ap, subst, ◌∙◌, arith}
+use Rattle.std.proofs.Common.{◌≡◌, ◌++◌, ◌∷◌, [], ℕ, List, length, sym, ap, subst, ◌∙◌}
 use Rattle.std.specs.Prelude.{All}
 use Rattle.std.proofs.lemmas.List.{length_push}
 use Rattle.std.proofs.lemmas.List.Elements.{All-push}
 use Rattle.eq_proof.specs.Literal.{Literal}
 use Rattle.eq_proof.specs.Inference.{Inference}
 use Rattle.eq_proof.specs.Assigned.{AllBelow}
-use Rattle.eq_proof.specs.Derivation.{IsDerivation, AllDerive, EndsEmpty}
+use Rattle.eq_proof.specs.Derivation.{IsDerivation}
 use Rattle.eq_proof.specs.Fresh.{IsFresh}
 use Rattle.eq_cdcl.specs.Assignment.{Assignment, cut_to}
 use Rattle.eq_cdcl.specs.Knowledge.{known_of}
-use Rattle.eq_cdcl.specs.Judged.{IsLive}
 use Rattle.eq_cdcl.specs.Sound.{IsSound}
-use Rattle.eq_cdcl.specs.Halting.{Halts, AllHaveValues}
-use Rattle.eq_cdcl.specs.declared.search.Halt.TheVariants.{Satisfied}
-use Rattle.eq_cdcl.specs.Logged.{FreshBelow, IsLogged}
-use Rattle.eq_cdcl.proofs.Logging.{known_more, logged_more, refuted_derived, refuted_ends, refuted_fresh, satisfied}
+use Rattle.eq_cdcl.specs.Logged.{IsLogged}
+use Rattle.eq_cdcl.proofs.Logging.{known_more, logged_more}
 use Rattle.eq_cdcl.proofs.solver.go_back.Goals as goal
 
 pub returns-clause-sound : goal.returns-clause-sound

@@ -1,71 +1,42 @@
-use Rattle.std.proofs.Common.{◌≡◌, ◌≤◌, ◌<◌, ◌+◌, ◌-◌, ◌++◌, ◌∷◌, [], ℕ, List, Bool, false, length, sym, ap, subst, ◌∙◌, arith}
-use Rattle.std.specs.Prelude.{All}
-use Rattle.std.proofs.lemmas.List.{length_push}
-use Rattle.std.proofs.lemmas.List.Elements.{All-push}
-use Rattle.eq_proof.specs.Literal.{Literal}
-use Rattle.eq_proof.specs.Inference.{Inference}
-use Rattle.eq_proof.specs.Assigned.{AllBelow}
-use Rattle.eq_proof.specs.Derivation.{IsDerivation, AllDerive, EndsEmpty}
-use Rattle.eq_proof.specs.Fresh.{IsFresh}
-use Rattle.eq_cdcl.specs.Assignment.{Assignment, cut_to}
-use Rattle.eq_cdcl.specs.Knowledge.{known_of}
-use Rattle.eq_cdcl.specs.Judged.{IsLive}
-use Rattle.eq_cdcl.specs.Sound.{IsSound}
-use Rattle.eq_cdcl.specs.Halting.{Halts, AllHaveValues}
-use Rattle.eq_cdcl.specs.declared.search.Halt.TheVariants.{Satisfied}
-use Rattle.eq_cdcl.specs.Logged.{FreshBelow, IsLogged}
-use Rattle.eq_cdcl.proofs.Logging.{logged_start, below_start, clear_start, refuted_derived, refuted_ends, refuted_fresh, satisfied}
+use Rattle.std.proofs.Common.{◌≡◌, ◌+◌, List, Bool, false, length, sym, ap, subst, ◌∙◌, arith}
 use Rattle.std.proofs.Math.ListN.{replicate}
 use Rattle.std.proofs.lemmas.List.{length-replicate}
-use Rattle.eq_cdcl.proofs.Sounds.{apart_consistent, sound_start}
+use Rattle.eq_proof.specs.Inference.{Inference}
+use Rattle.eq_cdcl.specs.Assignment.{Assignment}
+use Rattle.eq_cdcl.specs.Knowledge.{known_of}
+use Rattle.eq_cdcl.specs.Sound.{IsSound}
+use Rattle.eq_cdcl.specs.Logged.{IsLogged}
+use Rattle.eq_cdcl.proofs.Logging.{logged_start, below_start, clear_start}
+use Rattle.eq_cdcl.proofs.Sounds.{sound_start}
 use Rattle.eq_cdcl.proofs.solver.solve.Goals as goal
 
-pub returns-in-Satisfied-clause-sat_satisfies : goal.returns-in-Satisfied-clause-sat_satisfies
-returns-in-Satisfied-clause-sat_satisfies c =
-    let clauses = c.args.f.now.clauses in
-    let vars = c.args.f.now.vars in
-    let set = c.search.new.trail.lits in
-    let found : Halts c.new-known.result vars set Satisfied = subst (Halts c.new-known.result vars set) c.in-Satisfied.is c.in_ok-search.ensures.found in
-    let P : List (List Literal) → Type 0 = All (IsLive set) in
-    satisfied clauses c.loop-log.log vars set c.in_ok-values-in-Satisfied.field-0 c.args.f.now.within (subst P c.new-known.ensures found.0) found.1 c.in_ok-values-in-Satisfied.ensures.values
+pub run-requires-clause-size : goal.run-requires-clause-size
+run-requires-clause-size c = ap (λ (b : Assignment). b.size) c.in_ok-trail.ensures
 
-pub returns-in_default-clause-unsat_derives : goal.returns-in_default-clause-unsat_derives
-returns-in_default-clause-unsat_derives c =
-    let clauses = c.args.f.now.clauses in
-    let step = c.in_ok-step.step in
-    let P : List (List Literal) → Type 0 = λ known. IsDerivation known step in
-    let Q : List Inference → Type 0 = AllDerive clauses in
-    subst Q (sym c.in_ok-push.ensures.ok) (refuted_derived clauses c.loop-log.log step c.loop-log.invariant.logged (subst P c.new-known.ensures c.in_ok-step.ensures.derived))
+pub run-requires-clause-sound : goal.run-requires-clause-sound
+run-requires-clause-sound c =
+    let known = known_of c.args.f.now.clauses c.new-log.result in
+    let S : Assignment → Type 0 = λ b. IsSound known b in
+    subst S (sym c.in_ok-trail.ensures) (sound_start known (c.args.f.now.vars + 1))
 
-pub returns-in_default-clause-unsat_ends : goal.returns-in_default-clause-unsat_ends
-returns-in_default-clause-unsat_ends c =
-    let Q : List Inference → Type 0 = EndsEmpty in
-    subst Q (sym c.in_ok-push.ensures.ok) (refuted_ends c.loop-log.log c.in_ok-step.step c.in_ok-step.ensures.empty)
+pub run-requires-clause-below : goal.run-requires-clause-below
+run-requires-clause-below c =
+    let size = ap (λ (b : Assignment). b.size) c.in_ok-trail.ensures in
+    below_start c.args.f.now.clauses c.new-log.result c.args.f.now.vars c.in_ok-trail.trail.size c.new-log.ensures size c.args.f.now.within
 
-pub returns-in_default-clause-unsat_fresh : goal.returns-in_default-clause-unsat_fresh
-returns-in_default-clause-unsat_fresh c =
-    let clauses = c.args.f.now.clauses in
-    let Q : List Inference → Type 0 = λ log. FreshBelow clauses log (length log - 1) in
-    subst Q (sym c.in_ok-push.ensures.ok) (refuted_fresh clauses c.loop-log.log c.in_ok-step.step c.loop-log.invariant.logged)
+pub run-requires-clause-clear : goal.run-requires-clause-clear
+run-requires-clause-clear c = clear_start (c.args.f.now.vars + 1) c.in_ok-marks.marks c.in_ok-marks.ensures
 
-pub values-requires-clause-consistent : goal.values-requires-clause-consistent
-values-requires-clause-consistent c = apart_consistent c.search.new.trail.lits c.in_ok-search.ensures.sound.apart
+pub run-requires-clause-room : goal.run-requires-clause-room
+run-requires-clause-room c =
+    let size = ap (λ (b : Assignment). b.size) c.in_ok-trail.ensures in
+    let marks : c.in_ok-marks.marks ≡ replicate (c.args.f.now.vars + 1) false = c.in_ok-marks.ensures in
+    ap (λ (m : List Bool). length m) marks ∙ length-replicate (c.args.f.now.vars + 1) false ∙ sym size
 
-pub loop-log-init : goal.loop-log-init
-loop-log-init c =
-    let clauses = c.args.f.now.clauses in
-    let vars = c.args.f.now.vars in
-    let trail = c.in_ok-trail.ensures in
-    let size = ap (λ (b : Assignment). b.size) trail in
-    let marks : c.in_ok-marks.marks ≡ replicate (vars + 1) false = c.in_ok-marks.ensures in
-    let S : Assignment → Type 0 = λ b. IsSound (known_of clauses c.new-log.result) b in
-    let L : List Inference → Type 0 = IsLogged clauses in
-    record {
-      size = size;
-      sound = subst S (sym trail) (sound_start (known_of clauses c.new-log.result) (vars + 1));
-      below = below_start clauses c.new-log.result vars c.in_ok-trail.trail.size c.new-log.ensures size c.args.f.now.within;
-      clear = clear_start (vars + 1) c.in_ok-marks.marks marks;
-      room = ap (λ (m : List Bool). length m) marks ∙ length-replicate (vars + 1) false ∙ sym size;
-      logged = subst L (sym c.new-log.ensures) (logged_start clauses);
-      within = let none = ap (λ (ls : List Inference). length ls) c.new-log.ensures in omega arith;
-    }
+pub run-requires-clause-logged : goal.run-requires-clause-logged
+run-requires-clause-logged c =
+    let L : List Inference → Type 0 = IsLogged c.args.f.now.clauses in
+    subst L (sym c.new-log.ensures) (logged_start c.args.f.now.clauses)
+
+pub run-requires-clause-within : goal.run-requires-clause-within
+run-requires-clause-within c = let none = ap (λ (ls : List Inference). length ls) c.new-log.ensures in omega arith

@@ -1,9 +1,7 @@
-use Rattle.std.proofs.Common.{◌≡◌, ◌<◌, ◌≤◌, ◌+◌, ◌++◌, ◌∷◌, [], List, ℕ, length, take, arith, sym, ◌∙◌, ap, subst}
-use Rattle.std.specs.Prelude.{All}
+use Rattle.std.proofs.Common.{◌≡◌, ◌++◌, ◌∷◌, [], List, ℕ, length, arith, ◌∙◌, ap, subst}
 use Rattle.eq_proof.specs.Literal.{Literal}
 use Rattle.eq_proof.specs.Sets.{IsFalsified}
-use Rattle.eq_cdcl.specs.Resolved.{opens, IsResolved}
-use Rattle.eq_cdcl.proofs.Counting.{opens_same, opens_nothing}
+use Rattle.eq_cdcl.proofs.Counting.{opens_nothing}
 use Rattle.eq_cdcl.proofs.Marks.{falsified_places, number_within, same_number, conflict_open}
 use Rattle.eq_cdcl.proofs.Resolving.{resolved_start}
 use Rattle.eq_cdcl.proofs.analysis.Analysis.begin.Goals as goal

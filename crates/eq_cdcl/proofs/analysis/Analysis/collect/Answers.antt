@@ -1,4 +1,4 @@
-use Rattle.std.proofs.Common.{◌≡◌, ◌<◌, ◌≤◌, ◌+◌, ◌-◌, suc, List, ℕ, length, sym, arith, [], subst, ◌∙◌}
+use Rattle.std.proofs.Common.{◌≡◌, ◌-◌, suc, ℕ, arith, subst, ◌∙◌}
 use Rattle.eq_cdcl.specs.Asserting.{Asserts}
 use Rattle.eq_cdcl.proofs.Asserted.{asserts_cut, asserts_stay}
 use Rattle.eq_cdcl.proofs.analysis.Analysis.collect.Goals as goal

@@ -1,4 +1,4 @@
-use Rattle.std.proofs.Common.{◌≡◌, ◌≤◌, [], length}
+use Rattle.std.proofs.Common.{◌≡◌, length}
 use Rattle.eq_cdcl.specs.Resolved.{IsResolved}
 use Rattle.eq_cdcl.specs.Asserting.{Asserts}
 use Rattle.eq_cdcl.proofs.analysis.Analysis.collect.Given as goal

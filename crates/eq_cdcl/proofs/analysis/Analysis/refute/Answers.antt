@@ -1,4 +1,4 @@
-use Rattle.std.proofs.Common.{◌≡◌, ◌<◌, ◌≤◌, ◌+◌, ◌-◌, suc, List, ℕ, length, sym, arith, []}
+use Rattle.std.proofs.Common.{◌≡◌, ◌-◌, suc, sym, arith, []}
 use Rattle.eq_cdcl.proofs.Resolving.{resolved_down}
 use Rattle.eq_cdcl.proofs.analysis.Analysis.refute.Goals as goal
 

@@ -1,6 +1,4 @@
-use Rattle.std.proofs.Common.{◌≡◌, ◌<◌, ◌≤◌, ◌+◌, ◌++◌, ◌∷◌, [], suc, List, ℕ, length, take, arith, sym, ◌∙◌, ap, subst, add-one}
-use Rattle.eq_proof.specs.Literal.{Literal}
-use Rattle.eq_cdcl.specs.Resolved.{opens, IsResolved, MarksToo}
+use Rattle.std.proofs.Common.{add-one}
 use Rattle.eq_cdcl.proofs.Marks.{reason_places, reason_number, reason_unit, resolved_count}
 use Rattle.eq_cdcl.proofs.Resolving.{resolved_away}
 use Rattle.eq_cdcl.proofs.analysis.Analysis.resolve.Goals as goal

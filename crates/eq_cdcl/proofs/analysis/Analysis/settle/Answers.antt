@@ -1,5 +1,4 @@
-use Rattle.std.proofs.Common.{◌≡◌, ◌<◌, ◌≤◌, ◌+◌, List, ℕ, Bool, length, sym, ◌∙◌, ap, subst, set, false, refl}
-use Rattle.eq_proof.specs.Literal.{Literal}
+use Rattle.std.proofs.Common.{◌≡◌, List, ℕ, sym, ap, subst, set, false}
 use Rattle.eq_cdcl.specs.Asserting.{Keeps}
 use Rattle.eq_cdcl.specs.Resolved.{IsResolved}
 use Rattle.eq_cdcl.proofs.Resolving.{resolved_skip, resolved_kept, on_both}

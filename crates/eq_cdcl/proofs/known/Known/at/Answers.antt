@@ -1,4 +1,4 @@
-use Rattle.std.proofs.Common.{◌≡◌, ◌+◌, ◌-◌, ◌<◌, ◌≤◌, arith, rules, length, length-append}
+use Rattle.std.proofs.Common.{◌≡◌, ◌+◌, ◌-◌, arith, length, length-append}
 use Rattle.std.proofs.lemmas.List.{length-map}
 use Rattle.eq_proof.specs.Inference.{Inference, clauses_of}
 use Rattle.eq_proof.proofs.Before.{get_left, get_right}

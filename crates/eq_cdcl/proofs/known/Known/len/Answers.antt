@@ -1,4 +1,4 @@
-use Rattle.std.proofs.Common.{◌≡◌, ◌+◌, length, arith, length-append}
+use Rattle.std.proofs.Common.{arith, length-append}
 use Rattle.std.proofs.lemmas.List.{length-map}
 use Rattle.eq_proof.specs.Inference.{Inference, clauses_of}
 use Rattle.eq_cdcl.proofs.known.Known.len.Goals as goal

@@ -1,4 +1,4 @@
-use Rattle.std.proofs.Common.{◌≡◌, ◌≤◌, ◌<◌, ◌++◌, ◌∷◌, [], length, ap, sym, rules}
+use Rattle.std.proofs.Common.{◌≡◌, length, rules}
 use Rattle.eq_cdcl.proofs.Slotted.{trail_extended, trail_fits}
 use Rattle.eq_cdcl.proofs.trail.Trail.assign.Goals as goal
 

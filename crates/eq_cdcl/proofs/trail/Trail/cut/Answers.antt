@@ -1,8 +1,4 @@
-use Rattle.std.proofs.Common.{◌≡◌, ◌-◌, ◌≤◌, ◌<◌, length, take, ap, ap₂, sym, ◌∙◌, List, arith}
-use Rattle.std.proofs.lemmas.List.{take_all, take-take}
-use Rattle.eq_proof.specs.Literal.{Literal}
-use Rattle.eq_cdcl.specs.Assignment.{Assignment, cut_to}
-use Rattle.eq_cdcl.specs.declared.trail.Reason.{Reason}
+use Rattle.std.proofs.Common.{◌-◌, ◌≤◌, length, sym, ◌∙◌, arith}
 use Rattle.eq_cdcl.proofs.Sounds.{cut_all, cut_twice}
 use Rattle.eq_cdcl.proofs.trail.Trail.cut.Goals as goal
 

@@ -1,4 +1,4 @@
-use Rattle.std.proofs.Common.{◌≡◌, ◌≤◌, ◌-◌, length}
+use Rattle.std.proofs.Common.{◌≡◌, ◌≤◌, length}
 use Rattle.eq_cdcl.specs.Assignment.{cut_to}
 use Rattle.eq_cdcl.proofs.trail.Trail.cut.Given as goal
 

@@ -1,4 +1,4 @@
-use Rattle.std.proofs.Common.{◌≡◌, ◌-◌, ◌≤◌, ◌<◌, ◌++◌, ◌∷◌, [], length, take, ap, sym, List, subst, arith, rules}
+use Rattle.std.proofs.Common.{◌≡◌, length, ap, List, subst, arith}
 use Rattle.std.proofs.lemmas.List.{length-take, length_push}
 use Rattle.eq_proof.specs.Literal.{Literal}
 use Rattle.eq_cdcl.specs.Slots.{IsTrail}

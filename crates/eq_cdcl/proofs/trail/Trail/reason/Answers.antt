@@ -1,4 +1,4 @@
-use Rattle.std.proofs.Common.{◌<◌, length, arith}
+use Rattle.std.proofs.Common.{arith}
 use Rattle.eq_cdcl.proofs.trail.Trail.reason.Goals as goal
 
 pub returns-clause-few : goal.returns-clause-few

@@ -1,4 +1,3 @@
-use Rattle.std.proofs.Common.{◌≡◌, ◌<◌, length, ap, sym, ◌∙◌}
 use Rattle.std.proofs.lemmas.List.{get_or_read}
 use Rattle.eq_cdcl.specs.declared.trail.Slot.TheVariants.{Open}
 use Rattle.eq_cdcl.proofs.Slotted.{slot_value}

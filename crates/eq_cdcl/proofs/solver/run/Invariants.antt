@@ -1,0 +1,22 @@
+use Rattle.std.proofs.Common.{◌≡◌, ◌≤◌, ◌+◌, ◌-◌, ℕ, false, length}
+use Rattle.std.specs.Prelude.{All}
+use Rattle.eq_proof.specs.Assigned.{AllBelow}
+use Rattle.eq_cdcl.specs.Knowledge.{known_of}
+use Rattle.eq_cdcl.specs.Sound.{IsSound}
+use Rattle.eq_cdcl.specs.Resolved.{marked}
+use Rattle.eq_cdcl.specs.Logged.{IsLogged}
+use Rattle.eq_cdcl.proofs.solver.run.Given as goal
+
+abbrev pub invariant-loop-log : goal.invariant-loop-log
+invariant-loop-log l = record {
+  size : l.trail.size ≡ l.f.vars + 1;
+  sound : IsSound (known_of l.f.clauses l.log) l.trail;
+  below : All (AllBelow l.trail.size) (known_of l.f.clauses l.log);
+  clear : (p : ℕ) → marked l.marks p ≡ false;
+  room : length l.marks ≡ l.trail.size;
+  logged : IsLogged l.f.clauses l.log;
+  within : length l.log ≤ l.budget;
+}
+
+abbrev pub decreases-loop-log : goal.decreases-loop-log
+decreases-loop-log l = l.budget - length l.log
