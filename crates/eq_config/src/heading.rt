@@ -26,7 +26,8 @@ fn is_empty(line: &[u8]) -> bool
 /// The pattern of a heading, `*` where it has none.
 fn top_pattern(alloc: Global, line: &[u8]) -> Result<Pattern, Stop>
     requires { IsText line.now }
-    ensures pattern { IfOk result (λ pattern. pattern ≡ word_at (spec.top_words (words line.now)) 0) }
+    ensures pattern { IfOk result
+        (λ pattern. pattern ≡ word_at (spec.top_words (words line.now)) 0) }
     ensures ok { IfOk result (λ _. IsPatternLine (spec.top_words (words line.now))) }
     ensures fault { IfErr result (Refuses (IsPatternLine (spec.top_words (words line.now)))) }
 {

@@ -12,10 +12,12 @@ pub fn one_configuration()
 
 /// A text has at most one first fault (proofs/Uniqueness.antt).
 pub fn one_first_fault()
-    ensures { (text : List ℕ) (l m : ℕ) (j k : ConfigKind) → HasFault text l j → HasFault text m k → (l ≡ m) × (j ≡ k) }
+    ensures { (text : List ℕ) (l m : ℕ) (j k : ConfigKind) → HasFault text l j →
+        HasFault text m k → (l ≡ m) × (j ≡ k) }
 {}
 
 /// A text with a configuration has no fault (proofs/Uniqueness.antt).
 pub fn never_both()
-    ensures { (text : List ℕ) (c : Config) (line : ℕ) (kind : ConfigKind) → HasConfig text c → ¬ HasFault text line kind }
+    ensures { (text : List ℕ) (c : Config) (line : ℕ) (kind : ConfigKind) → HasConfig text c →
+        ¬ HasFault text line kind }
 {}

@@ -17,7 +17,8 @@ use std::alloc::Global;
 /// What a heading says, by the text between its brackets.
 fn heading_line(alloc: Global, number: u32, inner: &[u8]) -> Result<Said, Stop>
     requires { IsText inner.now }
-    ensures says { IfOk result (λ said. said ≡ spec.form_says number None (spec.heading (words inner.now))) }
+    ensures says { IfOk result
+        (λ said. said ≡ spec.form_says number None (spec.heading (words inner.now))) }
     ensures ok { IfOk result (λ _. IsFine None (spec.heading (words inner.now))) }
     ensures fault { IfErr result (Stops (spec.FormFault None (spec.heading (words inner.now)))) }
 {
@@ -43,7 +44,8 @@ fn plain_line(
     requires { IsText rest.now }
     ensures says { IfOk result (λ said. said ≡ spec.plain_said section word.now (words rest.now)) }
     ensures ok { IfOk result (λ _. IsFine section (spec.plain word.now (words rest.now))) }
-    ensures fault { IfErr result (Stops (spec.FormFault section (spec.plain word.now (words rest.now)))) }
+    ensures fault { IfErr result (Stops (spec.FormFault section (spec.plain word.now
+        (words rest.now)))) }
 {
     let Some(kind) = section else {
         return Err(Stop::Fault(ConfigKind::NoSection));
@@ -62,7 +64,8 @@ pub fn line(
     line: &[u8],
 ) -> Result<Said, Stop>
     requires { IsText line.now }
-    ensures says { IfOk result (λ said. said ≡ spec.form_says number section (spec.form_of line.now)) }
+    ensures says { IfOk result
+        (λ said. said ≡ spec.form_says number section (spec.form_of line.now)) }
     ensures ok { IfOk result (λ _. IsFine section (spec.form_of line.now)) }
     ensures fault { IfErr result (Stops (spec.FormFault section (spec.form_of line.now))) }
 {

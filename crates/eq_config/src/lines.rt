@@ -89,7 +89,8 @@ fn word_len(text: &[u8]) -> usize
 /// The first word of a line and what follows it, if there is a word.
 pub fn next_word(line: &[u8]) -> Option<(&[u8], &[u8])>
     requires { spec.IsText line.now }
-    ensures word { MatchOption result (spec.words line.now ≡ []) (λ found. spec.words line.now ≡ found.0.now ∷ spec.words found.1.now) }
+    ensures word { MatchOption result (spec.words line.now ≡ [])
+        (λ found. spec.words line.now ≡ found.0.now ∷ spec.words found.1.now) }
     ensures name { IfSome result (λ found. IsName found.0.now) }
     ensures rest { IfSome result (λ found. spec.IsText found.1.now) }
     ensures shorter { IfSome result (λ found. length found.1.now < length line.now) }

@@ -30,11 +30,14 @@ fn refused(said: Said, kind: ConfigKind) -> Stop
 
 /// What a line says more than the lines before it, if it has no fault.
 fn take_line(draft: &mut Draft, alloc: Global, number: u32, text: &[u8]) -> Result<(), Stop>
-    ensures ok { OnOk result ((before : List Said) → draft.old ≡ draft_of before → number ≡ length before + 1
+    ensures ok { OnOk result ((before : List Said) → draft.old ≡ draft_of before →
+        number ≡ length before + 1
         → draft.new ≡ draft_of (before ++ spec.said_at before text.now ∷ [])) }
-    ensures fine { OnOk result ((before : List Said) → draft.old ≡ draft_of before → number ≡ length before + 1
+    ensures fine { OnOk result ((before : List Said) → draft.old ≡ draft_of before →
+        number ≡ length before + 1
         → spec.IsFine before text.now) }
-    ensures fault { IfErr result (Stops (λ kind. (before : List Said) → draft.old ≡ draft_of before → number ≡ length before + 1
+    ensures fault { IfErr result (Stops (λ kind. (before : List Said) →
+        draft.old ≡ draft_of before → number ≡ length before + 1
         → spec.IsFirstKind before text.now kind)) }
 {
     if !is_text(text) {
@@ -129,8 +132,10 @@ pub fn read_config(alloc: Global, text: &[u8]) -> Result<Config, ConfigErr>
     ensures fault { IfErr result (spec.Explains text.now) }
 
     // and what is so is answered.
-    ensures only_ok { (config : Config) → spec.HasConfig text.now config → spec.IsOrNoMemory result (Ok config) }
-    ensures only_fault { (line : ℕ) (kind : ConfigKind) → spec.HasFault text.now line kind → spec.IsOrNoMemory result (Err (ConfigErr.At line kind)) }
+    ensures only_ok { (config : Config) → spec.HasConfig text.now config →
+        spec.IsOrNoMemory result (Ok config) }
+    ensures only_fault { (line : ℕ) (kind : ConfigKind) → spec.HasFault text.now line kind →
+        spec.IsOrNoMemory result (Err (ConfigErr.At line kind)) }
 {
     read_whole(alloc, text)
 }

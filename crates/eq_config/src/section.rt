@@ -38,7 +38,8 @@ pub type StrategySections = Items<StrategySection>;
 
 /// A rule more in the last section.
 pub fn add_match(all: &mut MatchSections, rule: MatchRule) -> Result<(), Memory>
-    ensures { OnOk result (all.new ≡ spec.on_last (λ s. record { top = s.top; rules = s.rules ++ rule ∷ [] }) all.old) }
+    ensures { OnOk result (all.new ≡ spec.on_last
+        (λ s. record { top = s.top; rules = s.rules ++ rule ∷ [] }) all.old) }
 {
     if let Some(mut last) = all.pop() {
         last.rules.push(rule)?;
@@ -49,7 +50,8 @@ pub fn add_match(all: &mut MatchSections, rule: MatchRule) -> Result<(), Memory>
 
 /// A rule more in the last section.
 pub fn add_collect(all: &mut CollectSections, rule: CollectRule) -> Result<(), Memory>
-    ensures { OnOk result (all.new ≡ spec.on_last (λ s. record { top = s.top; rules = s.rules ++ rule ∷ [] }) all.old) }
+    ensures { OnOk result (all.new ≡ spec.on_last
+        (λ s. record { top = s.top; rules = s.rules ++ rule ∷ [] }) all.old) }
 {
     if let Some(mut last) = all.pop() {
         last.rules.push(rule)?;
@@ -60,7 +62,8 @@ pub fn add_collect(all: &mut CollectSections, rule: CollectRule) -> Result<(), M
 
 /// A rule more in the last section.
 pub fn add_part(all: &mut PartSections, rule: PartRule) -> Result<(), Memory>
-    ensures { OnOk result (all.new ≡ spec.on_last (λ s. record { top = s.top; rules = s.rules ++ rule ∷ [] }) all.old) }
+    ensures { OnOk result (all.new ≡ spec.on_last
+        (λ s. record { top = s.top; rules = s.rules ++ rule ∷ [] }) all.old) }
 {
     if let Some(mut last) = all.pop() {
         last.rules.push(rule)?;
