@@ -52,9 +52,12 @@ impl Analysis {
         requires room { length trail.now.lits ≤ length self.old.marks }
         requires kept { self.old.kept ≡ [] }
         requires ants { self.old.ants.items ≡ [] }
-        ensures resolved { OnOk result (IsResolved known.now trail.now.lits (length trail.now.lits) self.new.marks [] self.new.ants.items) }
-        ensures counted { IfOk result (λ more. opens self.new.marks start (length trail.now.lits) ≡ more) }
-        ensures some { IfOk result (λ more. slice_get trail.now.reasons start ≡ Some Reason.Decision → 1 ≤ more) }
+        ensures resolved { OnOk result (IsResolved known.now trail.now.lits
+            (length trail.now.lits) self.new.marks [] self.new.ants.items) }
+        ensures counted { IfOk result
+            (λ more. opens self.new.marks start (length trail.now.lits) ≡ more) }
+        ensures some { IfOk result
+            (λ more. slice_get trail.now.reasons start ≡ Some Reason.Decision → 1 ≤ more) }
         ensures kept { OnOk result (self.new.kept ≡ []) }
         ensures room { OnOk result (length self.new.marks ≡ length self.old.marks) }
     {
@@ -81,9 +84,12 @@ impl Analysis {
         requires start { IsLastDecision trail.now.reasons start }
         requires some { 1 ≤ count }
         requires counted { opens self.old.marks start (length trail.now.lits) ≡ count }
-        requires resolved { IsResolved known.now trail.now.lits (length trail.now.lits) self.old.marks [] self.old.ants.items }
+        requires resolved { IsResolved known.now trail.now.lits
+            (length trail.now.lits) self.old.marks [] self.old.ants.items }
         requires kept { self.old.kept ≡ [] }
-        ensures resolved { IfOk result (λ uip. IsResolved known.now trail.now.lits (suc uip) self.new.marks [] self.new.ants.items) }
+        ensures resolved { IfOk result
+            (λ uip. IsResolved known.now trail.now.lits
+            (suc uip) self.new.marks [] self.new.ants.items) }
         ensures last { IfOk result (λ uip. opens self.new.marks start uip ≡ 0) }
         ensures from { IfOk result (λ uip. start ≤ uip) }
         ensures within { IfOk result (λ uip. uip < length trail.now.lits) }
@@ -123,8 +129,10 @@ impl Analysis {
         requires within { uip < length trail.now.lits }
         requires resolved { IsResolved known.now trail.now.lits uip self.old.marks self.old.kept self.old.ants.items }
         requires asserts { Asserts trail.now.lits trail.now.reasons uip uip self.old.marks self.old.kept start }
-        ensures resolved { OnOk result (IsResolved known.now trail.now.lits 0 self.new.marks self.new.kept self.new.ants.items) }
-        ensures asserts { IfOk result (λ cut. Asserts trail.now.lits trail.now.reasons uip 0 self.new.marks self.new.kept cut) }
+        ensures resolved { OnOk result
+            (IsResolved known.now trail.now.lits 0 self.new.marks self.new.kept self.new.ants.items) }
+        ensures asserts { IfOk result
+            (λ cut. Asserts trail.now.lits trail.now.reasons uip 0 self.new.marks self.new.kept cut) }
         ensures room { OnOk result (length self.new.marks ≡ length self.old.marks) }
     {
         let root = root_len(trail);
@@ -142,9 +150,11 @@ impl Analysis {
     pub fn refute(&mut self, trail: &Trail, known: &Known<'_>) -> Result<(), Memory>
         requires sound { IsSound known.now trail.now }
         requires root { HasNoDecision trail.now.reasons }
-        requires resolved { IsResolved known.now trail.now.lits (length trail.now.lits) self.old.marks [] self.old.ants.items }
+        requires resolved { IsResolved known.now trail.now.lits
+            (length trail.now.lits) self.old.marks [] self.old.ants.items }
         requires kept { self.old.kept ≡ [] }
-        ensures resolved { OnOk result (IsResolved known.now trail.now.lits 0 self.new.marks [] self.new.ants.items) }
+        ensures resolved { OnOk result
+            (IsResolved known.now trail.now.lits 0 self.new.marks [] self.new.ants.items) }
     {
         for place in (0..trail.len()).rev() {
             if !is_marked(&self.marks, place) {
@@ -175,7 +185,8 @@ impl Analysis {
     // Whether a level begins at a place where no other literal of it or of a lower one has been kept yet.
     fn begins_level(&self, trail: &Trail, place: usize) -> bool
         requires { place < length trail.now.reasons }
-        ensures { IsTrue result ↔ ((length self.now.kept ≡ 1) × (slice_get trail.now.reasons place ≡ Some Reason.Decision)) }
+        ensures { IsTrue result ↔ ((length self.now.kept ≡ 1) ×
+            (slice_get trail.now.reasons place ≡ Some Reason.Decision)) }
     {
         match trail.reason(place) {
             Reason::Decision => self.kept.len() == 1,
@@ -193,9 +204,12 @@ impl Analysis {
     ) -> Result<(), Memory>
         requires sound { IsSound known.now trail.now }
         requires within { place < length trail.now.lits }
-        requires resolved { IsResolved known.now trail.now.lits (suc place) self.old.marks self.old.kept self.old.ants.items }
-        ensures resolved { OnOk result (IsResolved known.now trail.now.lits place self.new.marks self.new.kept self.new.ants.items) }
-        ensures settles { OnOk result (Settles trail.now.lits place self.old.marks self.new.marks self.old.kept self.new.kept) }
+        requires resolved { IsResolved known.now trail.now.lits
+            (suc place) self.old.marks self.old.kept self.old.ants.items }
+        ensures resolved { OnOk result
+            (IsResolved known.now trail.now.lits place self.new.marks self.new.kept self.new.ants.items) }
+        ensures settles { OnOk result
+            (Settles trail.now.lits place self.old.marks self.new.marks self.old.kept self.new.kept) }
         ensures room { OnOk result (length self.new.marks ≡ length self.old.marks) }
     {
         if !is_marked(&self.marks, place) {
@@ -228,9 +242,12 @@ impl Analysis {
         requires few { place + 1 < 2 ^ 64 }
         requires reason { slice_get trail.now.reasons place ≡ Some (Reason.Implied number) }
         requires marked { marked self.old.marks place ≡ true }
-        requires resolved { IsResolved known.now trail.now.lits (suc place) self.old.marks self.old.kept self.old.ants.items }
-        ensures resolved { OnOk result (IsResolved known.now trail.now.lits place self.new.marks self.old.kept self.new.ants.items) }
-        ensures counted { IfOk result (λ more. start ≤ place → opens self.new.marks start place + 1 ≡ opens self.old.marks start (suc place) + more) }
+        requires resolved { IsResolved known.now trail.now.lits
+            (suc place) self.old.marks self.old.kept self.old.ants.items }
+        ensures resolved { OnOk result
+            (IsResolved known.now trail.now.lits place self.new.marks self.old.kept self.new.ants.items) }
+        ensures counted { IfOk result (λ more. start ≤ place →
+            opens self.new.marks start place + 1 ≡ opens self.old.marks start (suc place) + more) }
         ensures kept { self.new.kept ≡ self.old.kept }
         ensures room { OnOk result (length self.new.marks ≡ length self.old.marks) }
     {

@@ -47,7 +47,9 @@ pub fn learn(
     ensures fresh { IfOk result (λ learned. IsFresh known.now learned.step.clause) }
     ensures below { IfOk result (λ learned. AllBelow trail.now.size learned.step.clause) }
     ensures cut { IfOk result (λ learned. learned.cut ≤ length trail.now.lits) }
-    ensures sound { IfOk result (λ learned. IsSound (known.now ++ learned.step.clause ∷ []) (cut_to learned.cut trail.now)) }
+    ensures sound { IfOk result
+        (λ learned. IsSound (known.now ++ learned.step.clause ∷ [])
+        (cut_to learned.cut trail.now)) }
     ensures clear { IfOk result (λ learned. (p : ℕ) → marked learned.marks p ≡ false) }
     ensures room { IfOk result (λ learned. length learned.marks ≡ length marks) }
 {
@@ -89,7 +91,8 @@ pub fn refute(
 // The step of these literals and antecedents, of which the last comes first.
 fn into_step(alloc: Global, kept: &Items<Lit>, ants: Vec<u64>) -> Result<Step, Memory>
     requires { All (λ n. 1 ≤ n) ants.items }
-    ensures members { IfOk result (λ step. (l : Literal) → Contains step.clause l ↔ Contains kept.now l) }
+    ensures members { IfOk result (λ step. (l : Literal) → Contains step.clause l ↔
+        Contains kept.now l) }
     ensures ants { IfOk result (λ step. step.ants ≡ reverse ants.items) }
 {
     let clause = Clause::of(alloc, kept.as_slice())?;

@@ -40,13 +40,18 @@ pub enum Solved {
 pub fn solve(alloc: Global, f: &Formula, budget: u64) -> Result<Solved, Memory>
     requires { budget ≤ 1_000_000 }
     ensures sat_len { IfOk result (λ solved. IfSat solved (λ bits. length bits ≡ f.now.vars)) }
-    ensures sat_satisfies { IfOk result (λ solved. IfSat solved (λ bits. SatisfiesAll (value_in bits) f.now.clauses)) }
-    ensures unsat_derives { IfOk result (λ solved. IfUnsat solved (λ log. AllDerive f.now.clauses log)) }
+    ensures sat_satisfies { IfOk result (λ solved. IfSat solved
+        (λ bits. SatisfiesAll (value_in bits) f.now.clauses)) }
+    ensures unsat_derives { IfOk result (λ solved. IfUnsat solved
+        (λ log. AllDerive f.now.clauses log)) }
     ensures unsat_ends { IfOk result (λ solved. IfUnsat solved (λ log. EndsEmpty log)) }
-    ensures unsat_fresh { IfOk result (λ solved. IfUnsat solved (λ log. FreshBelow f.now.clauses log (length log - 1))) }
+    ensures unsat_fresh { IfOk result (λ solved. IfUnsat solved
+        (λ log. FreshBelow f.now.clauses log (length log - 1))) }
     ensures unsat_within { IfOk result (λ solved. IfUnsat solved (λ log. length log ≤ budget + 1)) }
-    ensures spent_derives { IfOk result (λ solved. IfSpent solved (λ log. AllDerive f.now.clauses log)) }
-    ensures spent_fresh { IfOk result (λ solved. IfSpent solved (λ log. FreshBelow f.now.clauses log (length log))) }
+    ensures spent_derives { IfOk result (λ solved. IfSpent solved
+        (λ log. AllDerive f.now.clauses log)) }
+    ensures spent_fresh { IfOk result (λ solved. IfSpent solved
+        (λ log. FreshBelow f.now.clauses log (length log))) }
     ensures spent_exact { IfOk result (λ solved. IfSpent solved (λ log. length log ≡ budget)) }
 {
     let size = f.vars as usize + 1;
@@ -76,13 +81,18 @@ fn run(
     requires logged { IsLogged f.now.clauses log }
     requires within { length log ≤ budget }
     ensures sat_len { IfOk result (λ solved. IfSat solved (λ bits. length bits ≡ f.now.vars)) }
-    ensures sat_satisfies { IfOk result (λ solved. IfSat solved (λ bits. SatisfiesAll (value_in bits) f.now.clauses)) }
-    ensures unsat_derives { IfOk result (λ solved. IfUnsat solved (λ log. AllDerive f.now.clauses log)) }
+    ensures sat_satisfies { IfOk result (λ solved. IfSat solved
+        (λ bits. SatisfiesAll (value_in bits) f.now.clauses)) }
+    ensures unsat_derives { IfOk result (λ solved. IfUnsat solved
+        (λ log. AllDerive f.now.clauses log)) }
     ensures unsat_ends { IfOk result (λ solved. IfUnsat solved (λ log. EndsEmpty log)) }
-    ensures unsat_fresh { IfOk result (λ solved. IfUnsat solved (λ log. FreshBelow f.now.clauses log (length log - 1))) }
+    ensures unsat_fresh { IfOk result (λ solved. IfUnsat solved
+        (λ log. FreshBelow f.now.clauses log (length log - 1))) }
     ensures unsat_within { IfOk result (λ solved. IfUnsat solved (λ log. length log ≤ budget + 1)) }
-    ensures spent_derives { IfOk result (λ solved. IfSpent solved (λ log. AllDerive f.now.clauses log)) }
-    ensures spent_fresh { IfOk result (λ solved. IfSpent solved (λ log. FreshBelow f.now.clauses log (length log))) }
+    ensures spent_derives { IfOk result (λ solved. IfSpent solved
+        (λ log. AllDerive f.now.clauses log)) }
+    ensures spent_fresh { IfOk result (λ solved. IfSpent solved
+        (λ log. FreshBelow f.now.clauses log (length log))) }
     ensures spent_exact { IfOk result (λ solved. IfSpent solved (λ log. length log ≡ budget)) }
 {
     loop {
