@@ -26,6 +26,8 @@ ghost use Rattle.eq_elab.specs.Depending.{DriverDepends};
 ghost use Rattle.eq_elab.specs.Designs.{Flat, driver_of};
 ghost use Rattle.eq_elab.specs.Refusals.{Refusal, IsRefusedFor, IsAccepted};
 
+use eq_net::laws::operators_follow_reads;
+
 /// The tree of an expression, form by form. The proof stands in proofs/PureTrees.antt.
 pub fn expression_trees()
     ensures constant { (c : Constant) → expr_tree (Const c) ≡ const c }
@@ -63,7 +65,9 @@ pub fn statement_trees()
 /// in proofs/Respects.antt.
 pub fn values_follow_reads()
     ensures { (f : Flat) (b : ℕ) → DriverDepends (driver_of f b) }
-{}
+{
+    operators_follow_reads();
+}
 
 /// A design is refused for one thing at most, and isn't accepted then. The proof stands in proofs/Outcomes.antt.
 pub fn one_outcome()

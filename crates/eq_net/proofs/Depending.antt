@@ -1,5 +1,5 @@
 -- What an operation computes depends on the bits that it reads alone.
-use Rattle.std.proofs.Common.{◌≡◌, ℕ, zero, suc, ◌+◌, ◌-◌, ◌*◌, ◌/◌, ◌^◌, ◌<◌, Bool, true, false, not, nat_lt, nat_le, ◌&&◌, ◌||◌, ◌==◌, cond, List, [], ◌∷◌, ◌++◌, Contains, refl, arith, sym, ap, subst, ◌∙◌, inl, inr}
+use Rattle.std.proofs.Common.{◌≡◌, ℕ, zero, suc, ◌+◌, ◌-◌, ◌*◌, ◌/◌, ◌^◌, ◌<◌, Bool, true, false, not, nat_lt, nat_le, ◌&&◌, ◌||◌, ◌==◌, cond, List, [], ◌∷◌, ◌++◌, refl, arith, sym, ap, subst, ◌∙◌, inl, inr}
 use Rattle.std.proofs.lemmas.Bool.{cases_lt, ltb-true}
 use Rattle.std.proofs.lemmas.List.Elements.{Contains-append_left, Contains-append_right}
 use Rattle.eq_model.specs.System.{Values}
@@ -9,12 +9,9 @@ use Rattle.eq_net.specs.declared.types.RedOp.{RedOp}
 use Rattle.eq_net.specs.declared.types.RedOp.TheVariants as red
 use Rattle.eq_net.specs.Numbers.{Digits, differ, number, digit, some_one}
 use Rattle.eq_net.specs.Operators.{one_bit, extended, apply, negative, reduce, choose, Reads, all_reads, reads_from, one_read, extended_reads, apply_reads, negative_reads, choose_reads, has_free_sizes}
+use Rattle.eq_net.specs.Following.{AgreeOn, Follow}
 use Rattle.eq_net.proofs.Sums.{SameBelow, number_same, all_ones_same, some_one_same, parity_same, sum_same, minus_same, negative_same}
 use Rattle.eq_net.proofs.Shifted.{shifted_up, shifted_down}
-
--- v and u have the same values at these bits
-abbrev pub AgreeOn : Values → Values → List ℕ → Type 0
-AgreeOn v u rs = (b : ℕ) → Contains rs b → v b ≡ u b
 
 pub agree_left : (v u : Values) (rs qs : List ℕ) → AgreeOn v u (rs ++ qs) → AgreeOn v u rs
 agree_left v u rs qs h b c = h b (Contains-append_left rs qs b c)
@@ -36,11 +33,7 @@ agree_all v u (suc n) i r lt h =
           subst P e (agree_right v u (all_reads n r) (r n) h))
     ]
 
--- the bits f and h have the same value where what r says is read has
-abbrev pub Follow : Values → Values → Reads → Digits → Digits → Type 0
-Follow v u r f h = (j : ℕ) → AgreeOn v u (r j) → f j ≡ h j
-
--- so the lowest n have, where all that they read has
+-- bits that follow reads are the same below n, where all that they read is
 pub follow_all : (v u : Values) (r : Reads) (f h : Digits) → Follow v u r f h → (n : ℕ) → AgreeOn v u (all_reads n r) → SameBelow n f h
 follow_all v u r f h follow n agree i lt = follow i (agree_all v u n i r lt agree)
 

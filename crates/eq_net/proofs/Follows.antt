@@ -9,7 +9,8 @@ use Rattle.eq_net.specs.declared.types.WordBit.{WordBit}
 use Rattle.eq_net.specs.Tree.{Tree, const, read, pick, negated, opposite, binary, reduced, choice, empty, joined, extended}
 use Rattle.eq_net.specs.Meaning.{if_there, bit_of, reads_of, table, width}
 use Rattle.eq_net.specs.Net.{AreWords, HasWordBit, IsWord, word_at}
-use Rattle.eq_net.proofs.Depending.{AgreeOn, Follow, agree_one, apply_same, reduce_same, opposite_same, extended_same, choose_same, branch_same}
+use Rattle.eq_net.specs.Following.{AgreeOn, Follow}
+use Rattle.eq_net.proofs.Depending.{agree_one, apply_same, reduce_same, opposite_same, extended_same, choose_same, branch_same}
 
 pub if_some : {X : Type 0} (P : X → Type 0) (xs : List X) → All P xs → (j : ℕ) → IfSome (slice_get xs j) P
 if_some P [] h j = tt

@@ -17,3 +17,6 @@ pub mod Designed
 pub mod Rounds
 pub mod Registers
 pub mod Stepping
+pub mod Marked
+pub mod Deciding
+pub mod Rippling

@@ -17,10 +17,10 @@ none_at [] j e = refl
 none_at (x ∷ xs) zero e = absurd (cc)
 none_at (x ∷ xs) (suc j) e = none_at xs j e
 
-other_word : (k w : ℕ) (x y : Bool) → w < k → cond {A = Bool} (w == k) x y ≡ y
+pub other_word : (k w : ℕ) (x y : Bool) → w < k → cond {A = Bool} (w == k) x y ≡ y
 other_word k w x y lt = ap (λ b. cond {A = Bool} b x y) (false_from_ne_true (w == k) (λ t. (let e = eqb-true w k t in absurd (omega arith))))
 
-this_word : (k : ℕ) (x y : Bool) → cond {A = Bool} (k == k) x y ≡ x
+pub this_word : (k : ℕ) (x y : Bool) → cond {A = Bool} (k == k) x y ≡ x
 this_word k x y = ap (λ b. cond {A = Bool} b x y) (eq-eqb k k refl)
 
 -- one more word

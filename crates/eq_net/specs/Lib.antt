@@ -4,11 +4,14 @@ pub mod Automatic
 pub mod Nets
 pub mod Tree
 pub mod Meaning
+pub mod Following
 pub mod Net
 pub mod NetProp
 pub mod Held
 pub mod Cycles
 pub mod Whole
+pub mod Decided
 pub mod Samples
 pub mod Naming
+pub mod Ripples
 pub mod inner

@@ -2,3 +2,4 @@
 pub mod Stack
 pub mod Gates
 pub mod Sized
+pub mod Marks

@@ -13,7 +13,8 @@ pub fn add(stack: &mut Vec<bool>, left: usize, right: usize, minus: bool)
     requires order { left ≤ right }
     requires sizes { right + (right - left) ≡ length stack.old.items }
     ensures { Replaces left
-        (digit ((number (right - left) (part stack.old.items left) + number (right - left) (λ i. differ_of minus (part stack.old.items right i))) + cond {A = ℕ} minus 1 0))
+        (digit ((number (right - left) (part stack.old.items left) + number (right - left)
+        (λ i. differ_of minus (part stack.old.items right i))) + cond {A = ℕ} minus 1 0))
         (right - left) stack.old.items stack.new.items }
 {
     let mut carry = minus;
@@ -30,7 +31,8 @@ pub fn add(stack: &mut Vec<bool>, left: usize, right: usize, minus: bool)
 /// Puts the negative of a number in its place, the values from `from` on.
 pub fn oppose(stack: &mut Vec<bool>, from: usize)
     requires { from ≤ length stack.old.items }
-    ensures { Replaces from (digit (2 ^ (length stack.old.items - from) - number (length stack.old.items - from) (part stack.old.items from)))
+    ensures { Replaces from (digit (2 ^ (length stack.old.items - from) - number
+        (length stack.old.items - from) (part stack.old.items from)))
         (length stack.old.items - from) stack.old.items stack.new.items }
 {
     let mut carry = true;
@@ -52,7 +54,8 @@ fn with_digits(less: bool, x: bool, y: bool) -> bool
 pub fn is_less(stack: &Vec<bool>, left: usize, right: usize, count: usize) -> bool
     requires left { left + count ≤ length stack.now.items }
     requires right { right + count ≤ length stack.now.items }
-    ensures { result ≡ nat_lt (number count (part stack.now.items left)) (number count (part stack.now.items right)) }
+    ensures { result ≡ nat_lt (number count (part stack.now.items left))
+        (number count (part stack.now.items right)) }
 {
     let mut less = false;
     for j in 0..count {
@@ -71,7 +74,8 @@ fn capped_sum(a: usize, b: usize, most: usize) -> usize
 /// The number that stands from `from` on, or `most` where it is more.
 pub fn capped_number(stack: &Vec<bool>, from: usize, most: usize) -> usize
     requires { from ≤ length stack.now.items }
-    ensures { result ≡ min most (number (length stack.now.items - from) (part stack.now.items from)) }
+    ensures { result ≡ min most (number (length stack.now.items - from)
+        (part stack.now.items from)) }
 {
     let mut sum = 0;
     let mut weight = capped_sum(1, 0, most);
@@ -88,7 +92,8 @@ pub fn capped_number(stack: &Vec<bool>, from: usize, most: usize) -> usize
 pub fn shift_up(stack: &mut Vec<bool>, left: usize, right: usize, by: usize)
     requires order { left ≤ right }
     requires there { right ≤ length stack.old.items }
-    ensures { Replaces left (λ j. nat_le by j && part stack.old.items left (j - by)) (right - left) stack.old.items stack.new.items }
+    ensures { Replaces left (λ j. nat_le by j && part stack.old.items left (j - by)) (right - left)
+        stack.old.items stack.new.items }
 {
     for i in 0..right - left {
         let j = right - left - 1 - i;
@@ -106,7 +111,8 @@ pub fn shift_up(stack: &mut Vec<bool>, left: usize, right: usize, by: usize)
 pub fn shift_down(stack: &mut Vec<bool>, left: usize, right: usize, by: usize)
     requires order { left ≤ right }
     requires there { right ≤ length stack.old.items }
-    ensures { Replaces left (λ j. nat_lt j (right - left - by) && part stack.old.items left (by + j)) (right - left) stack.old.items stack.new.items }
+    ensures { Replaces left (λ j. nat_lt j (right - left - by) && part stack.old.items left
+        (by + j)) (right - left) stack.old.items stack.new.items }
 {
     for j in 0..right - left {
         let moved = if by < right - left - j {

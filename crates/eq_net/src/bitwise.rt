@@ -38,7 +38,8 @@ fn gated_bit(kind: Gate, x: bool, y: bool) -> bool
 pub fn combine(kind: Gate, stack: &mut Vec<bool>, left: usize, right: usize)
     requires order { left ≤ right }
     requires sizes { right + (right - left) ≡ length stack.old.items }
-    ensures { Replaces left (λ j. gated kind (part stack.old.items left j) (part stack.old.items right j)) (right - left) stack.old.items stack.new.items }
+    ensures { Replaces left (λ j. gated kind (part stack.old.items left j)
+        (part stack.old.items right j)) (right - left) stack.old.items stack.new.items }
 {
     for j in 0..right - left {
         let combined = gated_bit(kind, bit(stack, left + j), bit(stack, right + j));
@@ -50,7 +51,8 @@ pub fn combine(kind: Gate, stack: &mut Vec<bool>, left: usize, right: usize)
 /// Negates the values from a place on.
 pub fn negate(stack: &mut Vec<bool>, from: usize)
     requires { from ≤ length stack.old.items }
-    ensures { Replaces from (λ j. not (part stack.old.items from j)) (length stack.old.items - from) stack.old.items stack.new.items }
+    ensures { Replaces from (λ j. not (part stack.old.items from j)) (length stack.old.items - from)
+        stack.old.items stack.new.items }
 {
     for j in 0..stack.len() - from {
         let negated = !bit(stack, from + j);

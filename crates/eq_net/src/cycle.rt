@@ -127,7 +127,9 @@ fn held(
 /// What a driver gives its bit, which has the value `held` now, from the bits of all words.
 fn driven(driver: Driver, held: bool, net: &Net, words: &[Bits]) -> bool
     requires { NamesWord (trees_of net.now.words) driver }
-    ensures { (v : Values) → HasWords v (number_of net.now.nets) (trees_of net.now.words) (length net.now.words) words.now →
+    ensures { (v : Values) →
+        HasWords v (number_of net.now.nets) (trees_of net.now.words) (length net.now.words)
+        words.now →
         result ≡ compute (source_of net.now.nets (trees_of net.now.words) driver) v held }
 {
     match driver {
@@ -141,7 +143,8 @@ fn driven(driver: Driver, held: bool, net: &Net, words: &[Bits]) -> bool
 /// Whether each bit has what its driver computes.
 fn is_settled(net: &Net, words: &[Bits], now: &[bool]) -> bool
     requires bits { length now.now ≡ bits_of net.now.nets }
-    requires words { HasWords (values now.now) (number_of net.now.nets) (trees_of net.now.words) (length net.now.words) words.now }
+    requires words { HasWords (values now.now) (number_of net.now.nets) (trees_of net.now.words)
+        (length net.now.words) words.now }
     ensures { result ≡ true → (b : ℕ) → b < bits_of net.now.nets → values now.now b ≡
         compute ((system_of (parts_of net.now)).driver b) (values now.now) (values now.now b) }
 {
@@ -156,7 +159,8 @@ fn is_settled(net: &Net, words: &[Bits], now: &[bool]) -> bool
 /// Gives each bit what its driver computes from the values `now`, of which `words` has the bits of all words.
 fn update(net: &Net, words: &[Bits], now: &mut [bool])
     requires bits { length now.old ≡ bits_of net.now.nets }
-    requires words { HasWords (values now.old) (number_of net.now.nets) (trees_of net.now.words) (length net.now.words) words.now }
+    requires words { HasWords (values now.old) (number_of net.now.nets) (trees_of net.now.words)
+        (length net.now.words) words.now }
     ensures { (b : ℕ) → b < bits_of net.now.nets → values now.new b ≡
         compute ((system_of (parts_of net.now)).driver b) (values now.old) (values now.old b) }
 {
@@ -165,26 +169,24 @@ fn update(net: &Net, words: &[Bits], now: &mut [bool])
     }
 }
 
-/// Gives all bits their values in one cycle, in which the inputs and the registers have the values that stand in `now`.
-/// Answers the bits of all words.
-///
-/// All words are evaluated once, each behind those that it reads. Rounds over all bits follow until none changes: the first
-/// one, where such an order was found, else at most one more than there are bits.
-fn solve(alloc: Global, net: &Net, now: &mut [bool]) -> Result<Vec<Bits>, Memory>
-    requires { length now.old ≡ bits_of net.now.nets }
-    ensures cycle { IfOk result (λ words. Cycle (system_of (parts_of net.now)) nothing (values now.old) (values now.new)) }
-    ensures words { IfOk result (λ words. HasWords (values now.new) (number_of net.now.nets) (trees_of net.now.words) (length net.now.words) words.items) }
+/// Gives all bits their values in one cycle by rounds over all of them, until none changes. From any values there are at
+/// most one more than there are bits. Answers the bits of all words.
+fn go_round(alloc: Global, net: &Net, starts: &[u32], now: &mut [bool]) -> Result<Vec<Bits>, Memory>
+    requires starts { AreStarts net.now.nets starts.now }
+    requires bits { length now.old ≡ bits_of net.now.nets }
+    ensures cycle { IfOk result (λ words.
+        Cycle (system_of (parts_of net.now)) nothing (values now.old) (values now.new)) }
+    ensures words { IfOk result (λ words. HasWords (values now.new) (number_of net.now.nets)
+        (trees_of net.now.words) (length net.now.words) words.items) }
 {
     one_cycle();
     heights();
-    let starts = starts(alloc, net.nets.as_slice())?;
-    sweep_all(alloc, net, &starts, now)?;
     for _ in 0..net.drivers.len() + 1 {
         let words = evaluate_all(
             alloc,
             net.words.as_slice(),
             net.nets.as_slice(),
-            &starts,
+            starts,
             now,
         )?;
         if is_settled(net, &words, now) {
@@ -196,9 +198,29 @@ fn solve(alloc: Global, net: &Net, now: &mut [bool]) -> Result<Vec<Bits>, Memory
         alloc,
         net.words.as_slice(),
         net.nets.as_slice(),
-        &starts,
+        starts,
         now,
     )
+}
+
+/// Gives all bits their values in one cycle, in which the inputs and the registers have the values that stand in `now`.
+/// Answers the bits of all words.
+///
+/// Each word is evaluated once, behind those that it reads. Rounds follow only where no such order was found, since words
+/// read one another bit by bit.
+fn solve(alloc: Global, net: &Net, now: &mut [bool]) -> Result<Vec<Bits>, Memory>
+    requires { length now.old ≡ bits_of net.now.nets }
+    ensures cycle { IfOk result (λ words.
+        Cycle (system_of (parts_of net.now)) nothing (values now.old) (values now.new)) }
+    ensures words { IfOk result (λ words. HasWords (values now.new) (number_of net.now.nets)
+        (trees_of net.now.words) (length net.now.words) words.items) }
+{
+    one_cycle();
+    let starts = starts(alloc, net.nets.as_slice())?;
+    match sweep_all(alloc, net, &starts, now)? {
+        Some(words) => Ok(words),
+        None => go_round(alloc, net, &starts, now),
+    }
 }
 
 /// The values of all bits in one cycle and the registers' next values, from the values of the registers and of the inputs,
@@ -206,7 +228,8 @@ fn solve(alloc: Global, net: &Net, now: &mut [bool]) -> Result<Vec<Bits>, Memory
 pub fn step(alloc: Global, net: &Net, state: &State, inputs: &[bool]) -> Result<Stepped, Memory>
     requires state { length state.now ≡ register_count net.now.drivers }
     requires inputs { length inputs.now ≡ input_count net.now.drivers }
-    ensures { IfOk result (λ stepped. IsStep (parts_of net.now) state.now inputs.now stepped.values stepped.next) }
+    ensures { IfOk result (λ stepped.
+        IsStep (parts_of net.now) state.now inputs.now stepped.values stepped.next) }
 {
     let mut values = held(alloc, net.drivers.as_slice(), state.as_slice(), inputs)?;
     let words = solve(alloc, net, &mut values)?;

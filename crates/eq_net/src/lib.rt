@@ -5,7 +5,9 @@
 //! - `stack`: digits on a stack (`Replaces`). `bitwise`, `arithmetic`, `reduction`: what is computed from them. `operators`:
 //!   each operator in the place of its operands (`apply`, `reduce`, `choose`).
 //! - `word`: the bits of words (`bit_of`, `HasWords`).
-//! - `ordering`, `sweep`: words evaluated behind those that they read. Nothing is promised but that what is held stays.
+//! - `ordering`, `chains`: an order of the words, and what each drives, of which nothing is promised. `readiness`: whether all
+//!   that a word reads has its value (`IsReady`). `sweep`: each word evaluated once, behind what it reads (`AreMarked`,
+//!   `AreWhole`).
 //! - `cycle`: the first state, and one step (`IsStep`).
 //! - `laws`: a net is a design, steps are its run. `examples`: what the definitions say, on numbers.
 #![tactic(auto)]
@@ -13,6 +15,7 @@
 mod arithmetic;
 mod automatic;
 mod bitwise;
+mod chains;
 mod cycle;
 pub mod examples;
 pub mod laws;
@@ -20,6 +23,7 @@ mod naming;
 mod net;
 mod operators;
 mod ordering;
+mod readiness;
 mod reduction;
 mod stack;
 mod sweep;

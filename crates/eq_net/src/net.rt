@@ -2,10 +2,11 @@
 
 ghost use Rattle.std.specs.Prelude.{◌≡◌, ◌≤◌, slice_get};
 ghost use Rattle.std.specs.Option.{option_copied};
+ghost use Rattle.eq_net.specs.Held.{input_count, register_count};
 ghost use Rattle.eq_net.specs.Net.{IsNet, bits_of, most_cost, parts};
 ghost use Rattle.eq_net.specs.NetProp.{IsNet-prop};
 
-use crate::types::{Drivers, NetInfo, NetInfos, NetNumbers, Words};
+use crate::types::{Driver, Drivers, NetInfo, NetInfos, NetNumbers, Words};
 
 /// A flat netlist. Nets stand by instance, then by first mention; bits by net, then by position.
 #[derive(Debug, Drop)]
@@ -38,10 +39,54 @@ impl Net {
         self.drivers.len() as u32
     }
 
+    /// How many bits come from outside: as many inputs as a step takes.
+    pub fn inputs(&self) -> usize
+        ensures { result ≡ input_count self.now.drivers }
+    {
+        count_inputs(self.drivers.as_slice())
+    }
+
+    /// How many bits are registers: as many as a state has.
+    pub fn registers(&self) -> usize
+        ensures { result ≡ register_count self.now.drivers }
+    {
+        count_registers(self.drivers.as_slice())
+    }
+
     pub fn cost(&self) -> u64
         ensures cost { result ≡ self.now.cost }
         ensures limit { result ≤ most_cost }
     {
         self.cost
     }
+}
+
+fn count_inputs(drivers: &[Driver]) -> usize
+    ensures { result ≡ input_count drivers.now }
+{
+    let mut count = 0;
+    for driver in drivers {
+        match driver {
+            Driver::Input => count += 1,
+            Driver::Undriven => {}
+            Driver::Expr { .. } => {}
+            Driver::Reg { .. } => {}
+        }
+    }
+    count
+}
+
+fn count_registers(drivers: &[Driver]) -> usize
+    ensures { result ≡ register_count drivers.now }
+{
+    let mut count = 0;
+    for driver in drivers {
+        match driver {
+            Driver::Input => {}
+            Driver::Undriven => {}
+            Driver::Expr { .. } => {}
+            Driver::Reg { .. } => count += 1,
+        }
+    }
+    count
 }

@@ -18,7 +18,9 @@ fn sum(stack: &mut Vec<bool>, left: usize, right: usize)
     requires order { left ≤ right }
     requires there { right ≤ length stack.old.items }
     requires sizes { right - left ≡ length stack.old.items - right }
-    ensures { Replaces left (apply Add (right - left) (length stack.old.items - right) (part stack.old.items left) (part stack.old.items right)) (right - left) stack.old.items stack.new.items }
+    ensures { Replaces left (apply Add (right - left) (length stack.old.items - right)
+        (part stack.old.items left) (part stack.old.items right)) (right - left) stack.old.items
+        stack.new.items }
 {
     add(stack, left, right, false);
 }
@@ -27,7 +29,9 @@ fn difference(stack: &mut Vec<bool>, left: usize, right: usize)
     requires order { left ≤ right }
     requires there { right ≤ length stack.old.items }
     requires sizes { right - left ≡ length stack.old.items - right }
-    ensures { Replaces left (apply Sub (right - left) (length stack.old.items - right) (part stack.old.items left) (part stack.old.items right)) (right - left) stack.old.items stack.new.items }
+    ensures { Replaces left (apply Sub (right - left) (length stack.old.items - right)
+        (part stack.old.items left) (part stack.old.items right)) (right - left) stack.old.items
+        stack.new.items }
 {
     add(stack, left, right, true);
 }
@@ -35,7 +39,9 @@ fn difference(stack: &mut Vec<bool>, left: usize, right: usize)
 fn left_shift(stack: &mut Vec<bool>, left: usize, right: usize)
     requires order { left ≤ right }
     requires there { right ≤ length stack.old.items }
-    ensures { Replaces left (apply Shl (right - left) (length stack.old.items - right) (part stack.old.items left) (part stack.old.items right)) (right - left) stack.old.items stack.new.items }
+    ensures { Replaces left (apply Shl (right - left) (length stack.old.items - right)
+        (part stack.old.items left) (part stack.old.items right)) (right - left) stack.old.items
+        stack.new.items }
 {
     let by = capped_number(stack, right, right - left);
     shift_up(stack, left, right, by);
@@ -44,7 +50,9 @@ fn left_shift(stack: &mut Vec<bool>, left: usize, right: usize)
 fn right_shift(stack: &mut Vec<bool>, left: usize, right: usize)
     requires order { left ≤ right }
     requires there { right ≤ length stack.old.items }
-    ensures { Replaces left (apply Shr (right - left) (length stack.old.items - right) (part stack.old.items left) (part stack.old.items right)) (right - left) stack.old.items stack.new.items }
+    ensures { Replaces left (apply Shr (right - left) (length stack.old.items - right)
+        (part stack.old.items left) (part stack.old.items right)) (right - left) stack.old.items
+        stack.new.items }
 {
     let by = capped_number(stack, right, right - left);
     shift_down(stack, left, right, by);
@@ -55,7 +63,8 @@ fn below(stack: &Vec<bool>, left: usize, right: usize) -> bool
     requires order { left ≤ right }
     requires there { right ≤ length stack.now.items }
     requires sizes { right - left ≡ length stack.now.items - right }
-    ensures { result ≡ nat_lt (number (right - left) (part stack.now.items left)) (number (length stack.now.items - right) (part stack.now.items right)) }
+    ensures { result ≡ nat_lt (number (right - left) (part stack.now.items left))
+        (number (length stack.now.items - right) (part stack.now.items right)) }
 {
     is_less(stack, left, right, right - left)
 }
@@ -65,7 +74,8 @@ fn above(stack: &Vec<bool>, left: usize, right: usize) -> bool
     requires order { left ≤ right }
     requires there { right ≤ length stack.now.items }
     requires sizes { right - left ≡ length stack.now.items - right }
-    ensures { result ≡ nat_lt (number (length stack.now.items - right) (part stack.now.items right)) (number (right - left) (part stack.now.items left)) }
+    ensures { result ≡ nat_lt (number (length stack.now.items - right) (part stack.now.items right))
+        (number (right - left) (part stack.now.items left)) }
 {
     is_less(stack, right, left, right - left)
 }
@@ -75,7 +85,8 @@ fn equal(stack: &Vec<bool>, left: usize, right: usize) -> bool
     requires order { left ≤ right }
     requires there { right ≤ length stack.now.items }
     requires sizes { right - left ≡ length stack.now.items - right }
-    ensures { result ≡ (number (right - left) (part stack.now.items left) == number (length stack.now.items - right) (part stack.now.items right)) }
+    ensures { result ≡ (number (right - left) (part stack.now.items left) == number
+        (length stack.now.items - right) (part stack.now.items right)) }
 {
     !below(stack, left, right) & !above(stack, left, right)
 }
@@ -85,7 +96,8 @@ fn truths(stack: &Vec<bool>, left: usize, right: usize) -> (bool, bool)
     requires order { left ≤ right }
     requires there { right ≤ length stack.now.items }
     ensures left { result.0 ≡ some_one (right - left) (part stack.now.items left) }
-    ensures right { result.1 ≡ some_one (length stack.now.items - right) (part stack.now.items right) }
+    ensures right { result.1 ≡ some_one (length stack.now.items - right)
+        (part stack.now.items right) }
 {
     (
         has_one(stack, left, right - left),
@@ -98,7 +110,8 @@ pub fn operate(op: WordOp, stack: &mut Vec<bool>, left: usize, right: usize) -> 
     requires order { left ≤ right }
     requires there { right ≤ length stack.old.items }
     requires sizes { has_free_sizes op ≡ false → right - left ≡ length stack.old.items - right }
-    ensures { OnOk result (Replaces left (apply op (right - left) (length stack.old.items - right) (part stack.old.items left) (part stack.old.items right))
+    ensures { OnOk result (Replaces left (apply op (right - left) (length stack.old.items - right)
+        (part stack.old.items left) (part stack.old.items right))
         (result_size op (right - left)) stack.old.items stack.new.items) }
 {
     match op {
@@ -148,7 +161,9 @@ fn reduced(op: RedOp, stack: &Vec<bool>, from: usize) -> bool
 /// Puts a reduction in the place of its operand, the values from `from` on.
 pub fn reduce_to_one(op: RedOp, stack: &mut Vec<bool>, from: usize) -> Result<(), Memory>
     requires { from ≤ length stack.old.items }
-    ensures { OnOk result (Replaces from (one_bit (reduce op (length stack.old.items - from) (part stack.old.items from))) 1 stack.old.items stack.new.items) }
+    ensures { OnOk result (Replaces from (one_bit
+        (reduce op (length stack.old.items - from) (part stack.old.items from))) 1 stack.old.items
+        stack.new.items) }
 {
     let bit = reduced(op, stack, from);
     leave_one(stack, from, bit)
@@ -161,7 +176,9 @@ pub fn choose_one(stack: &mut Vec<bool>, from: usize, left: usize, right: usize)
     requires order { left ≤ right }
     requires there { right ≤ length stack.old.items }
     requires sizes { right - left ≡ length stack.old.items - right }
-    ensures { Replaces from (choose (left - from) (part stack.old.items from) (part stack.old.items left) (part stack.old.items right)) (right - left) stack.old.items stack.new.items }
+    ensures { Replaces from (choose (left - from) (part stack.old.items from)
+        (part stack.old.items left) (part stack.old.items right)) (right - left) stack.old.items
+        stack.new.items }
 {
     if has_one(stack, from, left - from) {
         move_down(stack, from, left, right - left);
@@ -174,7 +191,8 @@ pub fn choose_one(stack: &mut Vec<bool>, from: usize, left: usize, right: usize)
 pub fn extend(stack: &mut Vec<bool>, from: usize, count: usize) -> Result<(), Memory>
     requires there { from ≤ length stack.old.items }
     requires room { length stack.old.items - from ≤ count }
-    ensures { OnOk result (Replaces from (extended (length stack.old.items - from) (part stack.old.items from)) count stack.old.items stack.new.items) }
+    ensures { OnOk result (Replaces from (extended (length stack.old.items - from)
+        (part stack.old.items from)) count stack.old.items stack.new.items) }
 {
     for _ in 0..count - (stack.len() - from) {
         stack.push(false)?;

@@ -1,5 +1,5 @@
-//! An order of the words in which each stands behind those that it reads. Nothing is promised of it: rounds that go on until
-//! nothing changes solve a cycle from any values, and with a good order one round is enough.
+//! An order of the words in which each stands behind those that it reads. Nothing is promised of it: a word is evaluated only
+//! where all that it reads has its value, and what is left is solved by rounds.
 
 use crate::net::Net;
 use crate::types::{Driver, Word};

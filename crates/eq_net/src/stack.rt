@@ -25,7 +25,8 @@ pub fn put(stack: &mut Vec<bool>, at: usize, bit: bool)
 pub fn cut(stack: &mut Vec<bool>, to: usize)
     requires { to ≤ length stack.old.items }
     ensures size { length stack.new.items ≡ to }
-    ensures kept { (k : ℕ) → k < to → slice_index_or stack.new.items k false ≡ slice_index_or stack.old.items k false }
+    ensures kept { (k : ℕ) → k < to → slice_index_or stack.new.items k false ≡ slice_index_or
+        stack.old.items k false }
 {
     stack.truncate(to);
 }

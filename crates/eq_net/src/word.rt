@@ -17,7 +17,7 @@ use eq_names::BitName;
 use std::alloc::Global;
 
 /// The value of a named bit.
-fn named(name: BitName, nets: &[NetInfo], starts: &[u32], now: &[bool]) -> bool
+pub fn named(name: BitName, nets: &[NetInfo], starts: &[u32], now: &[bool]) -> bool
     requires named { HasBit nets.now name }
     requires starts { AreStarts nets.now starts.now }
     requires bits { length now.now ≡ bits_of nets.now }
@@ -65,7 +65,8 @@ fn push_named(
     requires named { All (HasBit nets.now) names.now }
     requires starts { AreStarts nets.now starts.now }
     requires bits { length now.now ≡ bits_of nets.now }
-    ensures { OnOk result (stack.new.items ≡ stack.old.items ++ map (λ n. values now.now (number_of nets.now n)) names.now) }
+    ensures { OnOk result (stack.new.items ≡ stack.old.items ++ map
+        (λ n. values now.now (number_of nets.now n)) names.now) }
 {
     for name in names {
         stack.push(named(*name, nets, starts, now))?;
@@ -74,7 +75,8 @@ fn push_named(
 }
 
 fn push_picked(bits: &[WordBit], earlier: &[Bits], stack: &mut Vec<bool>) -> Result<(), Memory>
-    ensures { OnOk result (stack.new.items ≡ stack.old.items ++ map (λ (b : WordBit). frames earlier.now b.word b.bit) bits.now) }
+    ensures { OnOk result (stack.new.items ≡ stack.old.items ++ map
+        (λ (b : WordBit). frames earlier.now b.word b.bit) bits.now) }
 {
     for bit in bits {
         stack.push(picked(*bit, earlier))?;
@@ -95,7 +97,8 @@ fn push_word(
     requires sized { IsSized nets.now (tree_of word.now) }
     requires starts { AreStarts nets.now starts.now }
     requires bits { length now.now ≡ bits_of nets.now }
-    ensures { OnOk result (Grows (bit_of (values now.now) (number_of nets.now) (frames earlier.now) (tree_of word.now)) (width (tree_of word.now)) stack.old.items stack.new.items) }
+    ensures { OnOk result (Grows (bit_of (values now.now) (number_of nets.now) (frames earlier.now)
+        (tree_of word.now)) (width (tree_of word.now)) stack.old.items stack.new.items) }
 {
     let from = stack.len();
     match word {
@@ -152,7 +155,9 @@ fn push_parts(
     requires sized { IsSized nets.now (join_all (trees_of parts.now)) }
     requires starts { AreStarts nets.now starts.now }
     requires bits { length now.now ≡ bits_of nets.now }
-    ensures { OnOk result (Grows (bit_of (values now.now) (number_of nets.now) (frames earlier.now) (join_all (trees_of parts.now))) (width (join_all (trees_of parts.now))) stack.old.items stack.new.items) }
+    ensures { OnOk result (Grows (bit_of (values now.now) (number_of nets.now) (frames earlier.now)
+        (join_all (trees_of parts.now))) (width (join_all (trees_of parts.now))) stack.old.items
+        stack.new.items) }
 {
     for turn in 0..parts.len() {
         push_word(
@@ -180,7 +185,9 @@ pub fn evaluate(
     requires starts { AreStarts nets.now starts.now }
     requires bits { length now.now ≡ bits_of nets.now }
     ensures size { IfOk result (λ bits. length bits ≡ width (tree_of word.now)) }
-    ensures each { IfOk result (λ bits. (j : ℕ) → j < width (tree_of word.now) → values bits j ≡ bit_of (values now.now) (number_of nets.now) (frames earlier.now) (tree_of word.now) j) }
+    ensures each { IfOk result (λ bits. (j : ℕ) → j < width (tree_of word.now) →
+        values bits j ≡ bit_of (values now.now) (number_of nets.now) (frames earlier.now)
+        (tree_of word.now) j) }
 {
     let mut stack = Vec::new(alloc);
     push_word(word, nets, starts, now, earlier, &mut stack)?;
@@ -198,7 +205,8 @@ pub fn evaluate_all(
     requires words { AreWords nets.now (trees_of words.now) }
     requires starts { AreStarts nets.now starts.now }
     requires bits { length now.now ≡ bits_of nets.now }
-    ensures { IfOk result (λ all. HasWords (values now.now) (number_of nets.now) (trees_of words.now) (length words.now) all.items) }
+    ensures { IfOk result (λ all. HasWords (values now.now) (number_of nets.now)
+        (trees_of words.now) (length words.now) all.items) }
 {
     let mut all = Vec::with_capacity(alloc, words.len())?;
     for word in words {

@@ -4,7 +4,7 @@ use Rattle.eq_model.specs.System.{Values, Cycle, IsHeld, nothing}
 use Rattle.eq_net.specs.Net.{system_of}
 use Rattle.eq_net.specs.Whole.{parts_of}
 use Rattle.eq_net.proofs.Rounds.{IsHeight}
-use Rattle.eq_net.proofs.cycle.solve.Given as goal
+use Rattle.eq_net.proofs.cycle.go_round.Given as goal
 
 abbrev pub invariant-loop : goal.invariant-loop
 invariant-loop l =

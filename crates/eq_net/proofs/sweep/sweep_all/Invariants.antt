@@ -1,9 +1,0 @@
-use Rattle.std.proofs.Common.{◌≡◌, ℕ}
-use Rattle.eq_model.specs.Frames.{values}
-use Rattle.eq_model.specs.System.{IsHeld}
-use Rattle.eq_net.specs.Net.{system_of}
-use Rattle.eq_net.specs.Whole.{parts_of}
-use Rattle.eq_net.proofs.sweep.sweep_all.Given as goal
-
-abbrev pub invariant-loop-word : goal.invariant-loop-word
-invariant-loop-word l = (k : ℕ) → IsHeld ((system_of (parts_of l.net)).driver k) → values l.now k ≡ values l.fn.now k
