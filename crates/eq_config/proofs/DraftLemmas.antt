@@ -1,7 +1,6 @@
 -- What a draft keeps is what the lines so far say together.
-use Rattle.std.proofs.Common.{◌≡◌, ℕ, ◌+◌, Bool, List, [], ◌∷◌, ◌++◌, length, Option, Some, None, refl, sym, ap, ◌∙◌}
+use Rattle.std.proofs.Common.{◌≡◌, List, [], ◌∷◌, ◌++◌, None, refl}
 use Rattle.std.proofs.lemmas.List.Sums.{fold_push}
-use Rattle.eq_config.specs.declared.draft.Draft.{Draft}
 use Rattle.eq_config.specs.declared.said.Role.TheVariants.{Gold, Gate}
 use Rattle.eq_config.specs.declared.said.Heading.TheVariants as heading
 use Rattle.eq_config.specs.declared.said.Entry.TheVariants as entry

@@ -1,5 +1,5 @@
 -- What is missing, and the whole, by the draft of all lines.
-use Rattle.std.proofs.Common.{◌≡◌, ℕ, ◌+◌, List, length, Option, Some, None, refl, sym, ap, subst, ◌∙◌, inr}
+use Rattle.std.proofs.Common.{◌≡◌, ℕ, ◌+◌, List, length, Some, None, refl, sym, ap, ◌∙◌, inr}
 use Rattle.std.specs.Str.Lines.{lines}
 use Rattle.eq_config.specs.declared.config.Config.{Config}
 use Rattle.eq_config.specs.declared.draft.Draft.{Draft}
@@ -10,11 +10,12 @@ use Rattle.eq_config.specs.inner.Drafts.{draft_of}
 use Rattle.eq_config.specs.inner.Wholes.{missing_in_draft, config_of_draft}
 use Rattle.eq_config.proofs.Passing.{length_saids}
 
-missing_of_draft : (saids : List Said) → missing_in_draft (length saids + 1) (draft_of saids) ≡ missing saids
+-- what is missing of the lines, and their whole, are those of their draft
+pub missing_of_draft : (saids : List Said) → missing_in_draft (length saids + 1) (draft_of saids) ≡ missing saids
 unfolding draft_of
 missing_of_draft saids = refl
 
-whole_of_draft : (saids : List Said) → config_of_draft (draft_of saids) ≡ config_of saids
+pub whole_of_draft : (saids : List Said) → config_of_draft (draft_of saids) ≡ config_of saids
 unfolding draft_of
 whole_of_draft saids = refl
 

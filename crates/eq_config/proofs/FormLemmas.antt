@@ -1,10 +1,8 @@
 -- The form of a line, by what its reader found.
-use Rattle.std.proofs.Common.{◌≡◌, ℕ, Bool, true, false, cond, eqb, List, [], ◌∷◌, get_or, Option, Some, None, sym, ap, subst, ◌∙◌}
-use Rattle.std.specs.Prelude.{IfOk, IfErr, Result}
+use Rattle.std.proofs.Common.{◌≡◌, ℕ, Bool, cond, List, [], ◌∷◌, get_or, Option, Some, None, ap, ◌∙◌}
 use Rattle.std.proofs.lemmas.Bool.{eq-eqb, ne_eqb}
-use Rattle.eq_config.specs.declared.fault.ConfigKind.{ConfigKind}
 use Rattle.eq_config.specs.Lines.{words, heading_text}
-use Rattle.eq_config.specs.Forms.{Form, silent, heading, plain, speaking, form_by, form_of}
+use Rattle.eq_config.specs.Forms.{silent, heading, plain, speaking, form_by, form_of}
 
 pub form_none : (line : List ℕ) → words line ≡ [] → form_of line ≡ silent
 unfolding form_of

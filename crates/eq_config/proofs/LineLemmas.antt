@@ -1,5 +1,5 @@
 -- The first line of a text, and the first word of a line, by how many bytes stand before the first line feed or blank.
-use Rattle.std.proofs.Common.{◌≡◌, ℕ, suc, ◌+◌, ◌-◌, ◌<◌, ◌≤◌, Bool, true, false, cond, eqb, ltb, not, List, [], ◌∷◌, ◌++◌, length, get_or, take, drop, refl, sym, ap, subst, ◌∙◌, arith, inl, inr}
+use Rattle.std.proofs.Common.{◌≡◌, ℕ, suc, ◌+◌, ◌-◌, ◌<◌, ◌≤◌, Bool, true, false, cond, eqb, not, List, [], ◌∷◌, length, get_or, take, drop, refl, sym, ap, subst, ◌∙◌, arith, inl, inr}
 use Rattle.std.specs.Prelude.{filter}
 use Rattle.std.specs.List.{slice_split, position_or_len, prefix_len, before_first, after_first, All}
 use Rattle.std.specs.Str.Lines.{lines, lines_of_parts, strip_carriage_return}
@@ -32,8 +32,8 @@ last_line text n some at all =
         let long : eqb (length (b ∷ bs)) 0 ≡ false = ne_eqb (length (b ∷ bs)) 0 (λ e. absurd (omega arith)) in
         subst P (sym long) refl
 
--- a text is split into one part at least
-more_parts : (line : List ℕ) (text : List ℕ) → lines_of_parts (line ∷ slice_split (λ b. eqb b 10) text) ≡ strip_carriage_return line ∷ lines_of_parts (slice_split (λ b. eqb b 10) text)
+-- a text is split into one part at least, so that a part before it is a line
+pub more_parts : (line : List ℕ) (text : List ℕ) → lines_of_parts (line ∷ slice_split (λ b. eqb b 10) text) ≡ strip_carriage_return line ∷ lines_of_parts (slice_split (λ b. eqb b 10) text)
 more_parts line text = split line (slice_split (λ b. eqb b 10) text) (some text)
   where
     some : (text : List ℕ) → 0 < length (slice_split (λ b. eqb b 10) text)

@@ -3,9 +3,9 @@ use Rattle.std.proofs.Common.{◌≡◌, ℕ, ◌+◌, ◌*◌, ◌-◌, ◌^◌
 use Rattle.std.specs.Prelude.{fold}
 use Rattle.std.specs.Int.{IsInRange}
 use Rattle.std.specs.Fmt.{decimal}
-use Rattle.std.proofs.lemmas.Fmt.{digits_decimal, digits_value-decimal, decimal-digits_value, first_decimal, length-decimal-le}
+use Rattle.std.proofs.lemmas.Fmt.{digits_decimal, decimal-digits_value, first_decimal, length-decimal-le}
 use Rattle.std.proofs.lemmas.Str.Parse.{IsNumeralModel, FoldsDigits, numerals_by_fold, tells_by_index}
-use Rattle.std.proofs.lemmas.List.{take-append-drop, take_more}
+use Rattle.std.proofs.lemmas.List.{take-append-drop}
 use Rattle.std.proofs.lemmas.List.Sums.{fold-append, fold_more}
 use Rattle.eq_config.specs.Words.{IsShort, IsNumber, OneWord, value_of}
 use Rattle.eq_config.specs.Entries.{IsOtherThan}
@@ -18,7 +18,8 @@ AreDigits digits = (i : ℕ) → i < length digits → IsInRange 48 57 (get_or d
 abbrev pub value_on : ℕ → List ℕ → ℕ
 value_on value digits = fold (λ value digit. 10 * value + (digit - 48)) value digits
 
-own : IsNumeralModel AreDigits value_of
+-- digits and their value are what std calls a numeral
+pub own : IsNumeralModel AreDigits value_of
 own =
     let folds : FoldsDigits value_on = record {
       empty = λ n. refl;
@@ -70,7 +71,7 @@ number_first most word fits h zero' =
     omega arith
 
 -- a number is a short word
-number_short : (most : ℕ) (word : List ℕ) → most ≤ 200_000 → IsNumber most word → IsShort word
+pub number_short : (most : ℕ) (word : List ℕ) → most ≤ 200_000 → IsNumber most word → IsShort word
 number_short most word fits h =
     let within = h.within in
     let least = length-decimal-le 6 (value_of word) (omega arith) (omega arith) (omega arith) in

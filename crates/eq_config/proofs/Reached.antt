@@ -1,5 +1,5 @@
 -- One line more: what its reader found is what the definitions say of the line behind the lines before it.
-use Rattle.std.proofs.Common.{◌≡◌, ℕ, ◌+◌, Bool, true, false, List, [], ◌∷◌, ◌++◌, length, Option, sym, ap, subst, ◌∙◌}
+use Rattle.std.proofs.Common.{◌≡◌, ℕ, ◌+◌, true, false, List, [], ◌∷◌, ◌++◌, length, Option, sym, ap, subst, ◌∙◌}
 use Rattle.eq_config.specs.declared.draft.Draft.{Draft}
 use Rattle.eq_config.specs.declared.fault.ConfigKind.{ConfigKind}
 use Rattle.eq_config.specs.declared.fault.ConfigKind.TheVariants.{Twice, TooMany}

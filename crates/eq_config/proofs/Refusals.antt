@@ -1,5 +1,5 @@
 -- What stopped a reading, carried to the words that it is a part of.
-use Rattle.std.proofs.Common.{◌≡◌, List, [], ◌∷◌, ◌++◌, ℕ, ◌<◌, length, drop, append_assoc, Result, Ok, Err, inl, inr, sym, subst, ◌+◌, ◌≤◌, refl, ap, ◌∙◌, arith}
+use Rattle.std.proofs.Common.{◌≡◌, List, [], ◌∷◌, ◌++◌, ℕ, length, drop, append_assoc, Result, Ok, Err, inl, inr, sym, subst, refl, ap, ◌∙◌}
 use Rattle.std.specs.Prelude.{IfErr, IsErrAnd, All}
 use Rattle.std.proofs.lemmas.List.{drop_at}
 use Rattle.std.proofs.lemmas.List.Elements.{All-head, All-same, All-drop}

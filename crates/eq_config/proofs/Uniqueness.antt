@@ -1,5 +1,5 @@
 -- A text has one configuration or one first fault, and not both.
-use Rattle.std.proofs.Common.{◌≡◌, ℕ, suc, zero, ◌+◌, ◌<◌, ◌≤◌, List, length, Option, Some, None, Result, Ok, Err, refl, sym, ap, subst, ◌∙◌, arith, inl, inr}
+use Rattle.std.proofs.Common.{◌≡◌, ℕ, suc, zero, ◌+◌, List, Option, Some, None, Result, Ok, Err, refl, sym, ap, subst, ◌∙◌, inl, inr}
 use Rattle.std.specs.Prelude.{IfOk, IfErr, unwrap_or}
 use Rattle.std.specs.Str.Lines.{lines}
 use Rattle.std.proofs.lemmas.Bool.{cases_order}
@@ -9,7 +9,7 @@ use Rattle.eq_config.specs.declared.fault.ConfigErr.TheVariants as error
 use Rattle.eq_config.specs.declared.fault.ConfigKind.{ConfigKind}
 use Rattle.eq_config.specs.declared.fault.ConfigKind.TheVariants.{NotAscii, NoSection, UnknownSection, UnknownLine, BadWord, BadNumber, Twice, TooMany, Missing}
 use Rattle.eq_config.specs.declared.said.Said.{Said}
-use Rattle.eq_config.specs.Configs.{rank, IsFirstKind, before_at, line_at, missing, saids_of, HasConfig, HasFaultyLine, MissesAt, HasFault, Explains, IsOrNoMemory}
+use Rattle.eq_config.specs.Configs.{rank, IsFirstKind, before_at, line_at, HasConfig, HasFaultyLine, MissesAt, HasFault, Explains, IsOrNoMemory}
 
 -- ---- the kinds have different ranks
 

@@ -1,5 +1,5 @@
 -- The first kind of the table that holds for a line, by what its reader found.
-use Rattle.std.proofs.Common.{◌≡◌, ℕ, ◌+◌, ◌<◌, ◌≤◌, Bool, true, false, List, [], ◌∷◌, Option, Some, None, refl, sym, ap, subst, ◌∙◌, arith}
+use Rattle.std.proofs.Common.{◌≡◌, ℕ, ◌≤◌, true, false, List, Option, Some, None, refl, ap, arith}
 use Rattle.std.proofs.lemmas.Bool.{both_ways}
 use Rattle.eq_config.specs.declared.fault.ConfigKind.{ConfigKind}
 use Rattle.eq_config.specs.declared.fault.ConfigKind.TheVariants.{NotAscii, NoSection, UnknownSection, UnknownLine, BadWord, BadNumber, Twice, TooMany, Missing}
@@ -162,3 +162,7 @@ fine_line before line text fine once few = λ k has. cases before line ⊥ k has
     (λ own. fine k own)
     (λ is again. both_ways (is_twice before (said_at before line)) once again)
     (λ is again. both_ways (is_too_many before (said_at before line)) few again)
+
+-- a line without a fault has none by itself
+pub own_fine : (before : List Said) (line : List ℕ) → IsFine before line → inner.IsFine (section_of before) (form_of line)
+own_fine before line fine = λ k h. fine k (form_has before line k (between (section_of before) (form_of line) k h) h)

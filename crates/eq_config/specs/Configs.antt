@@ -122,6 +122,10 @@ pub record HasConfig (text : List ℕ) (config : Config) : Type 0 where
   pub whole : missing (saids_of (lines text)) ≡ None
   pub config_is : config ≡ config_of (saids_of (lines text))
 
+-- the configuration of some text
+abbrev pub IsConfig : Config → Type 0
+IsConfig config = (text : List ℕ) × HasConfig text config
+
 -- The first faulty line has this number, and this is the first kind that holds in it.
 pub record HasFaultyLine (text : List ℕ) (line : ℕ) (kind : ConfigKind) : Type 0 where
   pub at : ℕ

@@ -1,5 +1,5 @@
 -- What one line says, and what is wrong in it by itself, in a section of a kind or before the first heading.
-use Rattle.std.specs.Prelude.{◌≡◌, ℕ, List, [], ◌∷◌, Option, Some, None, drop, slice_index, ◌==◌, if◌then◌else◌, ⊤}
+use Rattle.std.specs.Prelude.{ℕ, List, [], ◌∷◌, Option, Some, None, drop, slice_index, ◌==◌, if◌then◌else◌, ⊤}
 use Rattle.eq_config.specs.declared.fault.ConfigKind.{ConfigKind}
 use Rattle.eq_config.specs.declared.fault.ConfigKind.TheVariants.{NoSection, UnknownSection, UnknownLine, BadWord}
 use Rattle.eq_config.specs.declared.said.SectionKind.{SectionKind}
@@ -8,7 +8,7 @@ use Rattle.eq_config.specs.declared.said.Said.TheVariants as said
 use Rattle.eq_config.specs.declared.keyword.Keyword.{Keyword}
 use Rattle.eq_config.specs.Lines.{words, heading_text}
 use Rattle.eq_config.specs.Keywords.{keyword_of}
-use Rattle.eq_config.specs.Entries.{Fits, entry_of, EntryFault}
+use Rattle.eq_config.specs.Entries.{entry_of, EntryFault}
 use Rattle.eq_config.specs.Headings.{title, HeadingFits, heading_of}
 
 -- A line says nothing, or is a heading with the words between its brackets, or any other line, with its first word and

@@ -5,6 +5,7 @@ pub mod Headings
 pub mod Keywords
 pub mod Limits
 pub mod Lines
+pub mod Printing
 pub mod Sections
 pub mod Words
 pub mod inner

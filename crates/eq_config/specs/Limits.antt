@@ -1,5 +1,5 @@
 -- What a line may not say behind the lines before it: the same again, or one too many.
-use Rattle.std.specs.Prelude.{ℕ, ◌+◌, ◌-◌, Bool, false, List, length, nat_le, nat_lt, Option, Some, None, is_some, slice_get}
+use Rattle.std.specs.Prelude.{◌+◌, ◌-◌, Bool, false, List, length, nat_le, nat_lt, Option, Some, None, is_some, slice_get}
 use Rattle.std.specs.List.{list_any}
 use Rattle.std.specs.Str.{bytes_eq}
 use Rattle.eq_config.specs.declared.limits.TheConstants.{MOST_FILES, MOST_STRATEGIES, MOST_RULES}

@@ -9,6 +9,7 @@
 //! - `section`, `draft`: what lines say together so far, what comes twice and what is one too many.
 //! - `finish`: what is missing, and the value with its defaults.
 //! - `fault`: the kinds of faults. `read`: `read_config`, which answers exactly the configuration or the first fault.
+//! - `put`, `print`: lines as they are written, and `print_config`, whose text has its configuration again.
 //! - `laws`: a text has one configuration or one first fault, and never both.
 #![tactic(auto)]
 
@@ -24,6 +25,8 @@ mod limits;
 mod line;
 mod lines;
 mod number;
+mod print;
+mod put;
 mod read;
 mod said;
 mod section;
@@ -35,4 +38,5 @@ pub use config::{
     Side, Strategies, Strategy,
 };
 pub use fault::{ConfigErr, ConfigKind};
+pub use print::print_config;
 pub use read::read_config;

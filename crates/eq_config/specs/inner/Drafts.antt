@@ -1,5 +1,5 @@
 -- Mirrors src/draft.rt; nothing here has to be believed.
-use Rattle.std.specs.Prelude.{ℕ, ◌+◌, Bool, false, List, [], ◌∷◌, ◌++◌, length, nat_le, nat_lt, Option, Some, None, is_some}
+use Rattle.std.specs.Prelude.{ℕ, ◌+◌, Bool, false, List, [], length, nat_le, nat_lt, None, is_some}
 use Rattle.std.specs.List.{list_any}
 use Rattle.std.specs.Str.{bytes_eq}
 use Rattle.eq_config.specs.declared.draft.Draft.{Draft}

@@ -1,5 +1,5 @@
 -- Mirrors src/finish.rt; nothing here has to be believed.
-use Rattle.std.specs.Prelude.{ℕ, List, [], map, Option, unwrap_or}
+use Rattle.std.specs.Prelude.{ℕ, [], map, Option, unwrap_or}
 use Rattle.eq_config.specs.declared.config.Config.{Config}
 use Rattle.eq_config.specs.declared.config.Side.{Side}
 use Rattle.eq_config.specs.declared.draft.Draft.{Draft}

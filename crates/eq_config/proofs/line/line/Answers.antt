@@ -1,7 +1,7 @@
-use Rattle.std.proofs.Common.{◌≡◌, ℕ, get_or, sym, subst, ap, ◌∙◌, Some, None}
+use Rattle.std.proofs.Common.{◌≡◌, get_or, sym, subst, ap}
 use Rattle.std.specs.Prelude.{IfOk, IfErr}
-use Rattle.eq_config.specs.Lines.{words, heading_text}
-use Rattle.eq_config.specs.Forms.{Form, silent, heading, plain, form_of, form_says, FormFault}
+use Rattle.eq_config.specs.Lines.{words}
+use Rattle.eq_config.specs.Forms.{form_says, FormFault}
 use Rattle.eq_config.specs.inner.Stopping.{Stops, IsFine}
 use Rattle.eq_config.proofs.FormLemmas.{form_none, form_comment, form_heading, form_plain}
 use Rattle.eq_config.proofs.line.line.Goals as goal

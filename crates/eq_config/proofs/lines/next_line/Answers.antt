@@ -1,4 +1,4 @@
-use Rattle.std.proofs.Common.{◌≡◌, ◌+◌, ◌-◌, ◌∷◌, ◌<◌, length, drop, take, sym, arith, ◌∙◌, ap}
+use Rattle.std.proofs.Common.{◌+◌, ◌-◌, ◌∷◌, ◌<◌, length, drop, take, sym, arith, ◌∙◌, ap}
 use Rattle.std.specs.Str.Lines.{lines}
 use Rattle.eq_config.proofs.LineLemmas.{last_line, first_line}
 use Rattle.eq_config.proofs.lines.next_line.Goals as goal

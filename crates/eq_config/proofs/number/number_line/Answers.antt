@@ -1,4 +1,4 @@
-use Rattle.std.proofs.Common.{◌≤◌, ◌^◌, arith}
+use Rattle.std.proofs.Common.{arith}
 use Rattle.eq_config.proofs.Numerals.{no_long_number}
 use Rattle.eq_config.proofs.number.number_line.Goals as goal
 

@@ -1,6 +1,6 @@
-use Rattle.std.proofs.Common.{◌≡◌, ◌≤◌, ◌∙◌, sym, length, arith}
+use Rattle.std.proofs.Common.{◌∙◌, sym, length, arith}
 use Rattle.std.proofs.lemmas.Bool.{eqb-true}
-use Rattle.eq_config.proofs.Passing.{IsReached, reached_more, all_read, faulty_line}
+use Rattle.eq_config.proofs.Passing.{reached_more, all_read, faulty_line}
 use Rattle.eq_config.proofs.read.read_lines.Goals as goal
 
 pub loop-rest-preserved : goal.loop-rest-preserved

@@ -1,5 +1,4 @@
 use Rattle.std.proofs.Common.{sym}
-use Rattle.eq_config.specs.Configs as spec
 use Rattle.eq_config.proofs.Ended.{misses, has_config}
 use Rattle.eq_config.proofs.read.read_whole.Goals as goal
 

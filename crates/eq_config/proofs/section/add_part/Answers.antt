@@ -1,5 +1,4 @@
 use Rattle.std.proofs.Common.{[], ◌∷◌, ◌++◌, ◌∙◌, sym, ap}
-use Rattle.eq_config.specs.Sections as spec
 use Rattle.eq_config.proofs.Growing.{on_last_is}
 use Rattle.eq_config.proofs.section.add_part.Goals as goal
 

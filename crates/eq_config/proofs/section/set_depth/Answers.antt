@@ -1,4 +1,4 @@
-use Rattle.std.proofs.Common.{[], ◌∷◌, ◌++◌, ◌∙◌, sym, ap}
+use Rattle.std.proofs.Common.{◌∙◌, sym}
 use Rattle.eq_config.specs.Sections as spec
 use Rattle.eq_config.proofs.Growing.{on_last_is}
 use Rattle.eq_config.proofs.section.set_depth.Goals as goal

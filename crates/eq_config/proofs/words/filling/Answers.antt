@@ -1,4 +1,4 @@
-use Rattle.std.proofs.Common.{refl, sym, ◌∙◌}
+use Rattle.std.proofs.Common.{refl}
 use Rattle.eq_config.proofs.Refusals.{no_filling, not_answered}
 use Rattle.eq_config.proofs.words.filling.Goals as goal
 
