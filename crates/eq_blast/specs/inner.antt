@@ -1,0 +1,11 @@
+pub mod Growing
+pub mod Needs
+pub mod Planned
+pub mod Rows
+pub mod Shifts
+pub mod Sorting
+pub mod Stack
+pub mod Steps
+pub mod Underway
+pub mod Wiring
+pub mod Words
