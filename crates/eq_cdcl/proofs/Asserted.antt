@@ -1,9 +1,9 @@
 -- The kept literals, one place after the other, and what the learned clause says.
-use Rattle.std.proofs.Common.{◌≡◌, ℕ, ◌-◌, ◌<◌, ◌≤◌, suc, zero, ◌⊎◌, inl, inr, Bool, true, false, List, [], ◌∷◌, ◌++◌, length, set, take, get_or, slice_get, Some, arith, refl, sym, ap, ◌∙◌, subst, get_or-set_other}
+use Rattle.std.proofs.Common.{◌≡◌, ℕ, ◌-◌, ◌<◌, ◌≤◌, suc, zero, ◌⊎◌, inl, inr, Bool, true, false, List, [], ◌∷◌, ◌++◌, length, set, take, get_or, slice_get, Option, Some, None, arith, refl, sym, ap, ◌∙◌, subst, get_or-set_other}
 use Rattle.std.specs.Prelude.{All, Contains}
 use Rattle.std.proofs.lemmas.Bool.{cases_eq, cases_lt}
 use Rattle.std.proofs.lemmas.List.{take-take}
-use Rattle.std.proofs.lemmas.List.Elements.{All-push, All-nil, All-contains, Contains-get_or, Contains-append_left}
+use Rattle.std.proofs.lemmas.List.Elements.{All-push, All-nil, All-contains, Contains-get_or}
 use Rattle.std.proofs.lemmas.Option.{slice_get_within}
 use Rattle.eq_proof.specs.Literal.{Literal, negation}
 use Rattle.eq_proof.specs.Sets.{IsFalse, IsFalsified, IsUnit}
@@ -14,9 +14,10 @@ use Rattle.eq_cdcl.specs.Assignment.{Assignment, cut_to}
 use Rattle.eq_cdcl.specs.Sound.{AreApart, IsExplained, IsSound}
 use Rattle.eq_cdcl.specs.Resolved.{marked, opens}
 use Rattle.eq_cdcl.specs.Asserting.{Keeps, Settles, IsAsserting, Asserts}
+use Rattle.eq_cdcl.specs.inner.Teaching.{IsSecond}
 use Rattle.eq_cdcl.specs.declared.trail.Reason.{Reason}
 use Rattle.eq_cdcl.specs.declared.trail.Reason.TheVariants.{Decision, Implied}
-use Rattle.eq_cdcl.proofs.Places.{taken_member, member_taken, taken_place, element_at}
+use Rattle.eq_cdcl.proofs.Places.{place_member, taken_member, member_taken, taken_place, same_place, push_old, element_at}
 use Rattle.eq_cdcl.proofs.Sounds.{sound_cut}
 use Rattle.eq_cdcl.proofs.Counting.{opens_some}
 
@@ -42,10 +43,10 @@ asserts_start lits reasons uip start marks marks' kept is keeps none from decisi
   },
 )
 
--- a list that isn't empty has an element
-some_length : (xs : List Literal) (d : Literal) → (length xs ≡ 0 → ⊥) → Contains xs (get_or xs 0 d)
-some_length [] d h = absurd (h refl)
-some_length (x ∷ xs) d h = Contains-get_or (x ∷ xs) 0 d (omega arith)
+-- a list that isn't empty has a first element
+some_length : (xs : List Literal) → (length xs ≡ 0 → ⊥) → (k : Literal) × (slice_get xs 0 ≡ Some k)
+some_length [] h = absurd (h refl)
+some_length (x ∷ xs) h = (x, refl)
 
 later_member : (l : Literal) (xs : List Literal) (k : Literal) → Contains xs k → Contains (l ∷ xs) k
 later_member l xs k h = (suc h.0, omega (arith, h.1), h.2)
@@ -63,7 +64,7 @@ record IsBetween (lits : List Literal) (reasons : List Reason) (l : Literal) (p 
   kept_is : kept ≡ l ∷ others
   lower : All (IsFalse (take cut lits)) others
   below : (q : ℕ) → q < p → marked marks q ≡ true → q < cut
-  levels : (q : ℕ) → suc p ≤ q → q < cut → slice_get reasons q ≡ Some Decision → (k : Literal) × Contains others k × (r : ℕ) × (q ≤ r) × (slice_get lits r ≡ Some (negation k))
+  levels : (q : ℕ) → suc p ≤ q → q < cut → slice_get reasons q ≡ Some Decision → (k : Literal) × (slice_get others 0 ≡ Some k) × (r : ℕ) × (q ≤ r) × (slice_get lits r ≡ Some (negation k))
 
 between : (lits : List Literal) (reasons : List Reason) (l : Literal) (uip p : ℕ) (marks marks' : List Bool) (kept kept' : List Literal) (cut : ℕ) → IsAsserting lits reasons l uip (suc p) marks kept cut → Settles lits p marks marks' kept kept' → IsBetween lits reasons l p marks' kept' cut
 between lits reasons l uip p marks marks' kept kept' cut a s =
@@ -82,7 +83,7 @@ between lits reasons l uip p marks marks' kept kept' cut a s =
             kept_is = more.1.2 ∙ ap (λ (ls : List Literal). ls ++ negation x ∷ []) a.kept_is;
             lower = All-push (IsFalse (take cut lits)) a.others (negation x) a.lower lower;
             below = below;
-            levels = λ q le lt e. let old = a.levels q le lt e in (old.0, Contains-append_left a.others (negation x ∷ []) old.0 old.1, old.2, old.3, old.4);
+            levels = λ q le lt e. let old = a.levels q le lt e in (old.0, push_old a.others (negation x ∷ []) 0 old.0 old.1, old.2, old.3, old.4);
           }
     ]
 
@@ -124,10 +125,10 @@ asserts_stay lits reasons uip p marks marks' kept kept' cut a s no_level above =
         levels = λ q le lt e. elim (cases_eq q p) [
           | inl is ↦
               let here : slice_get reasons p ≡ Some Decision = ap (λ n. slice_get reasons n) (sym is) ∙ e in
-              let k = get_or b.others 0 l in
-              let member = some_length b.others l (λ none. no_level ((let n = none in omega (arith, len)), here)) in
-              let at = above k (subst (λ (ls : List Literal). Contains ls k) (sym b.kept_is) (later_member l b.others k member)) in
-              (k, member, at.0, (let le = at.1 in omega arith), at.2)
+              let first = some_length b.others (λ none. no_level ((let n = none in omega (arith, len)), here)) in
+              let k = first.0 in
+              let at = above k (subst (λ (ls : List Literal). Contains ls k) (sym b.kept_is) (later_member l b.others k (place_member b.others 0 k first.1))) in
+              (k, first.1, at.0, (let le = at.1 in omega arith), at.2)
           | inr ne ↦ b.levels q (omega arith) lt e
         ];
         decision = a.2.decision;
@@ -143,32 +144,57 @@ not_false_below lits n place x l apart at same le h =
     let lt = q.1 in
     absurd (omega arith)
 
--- the settled set that the learned clause is fresh by
-pub asserted_fresh : (known : List (List Literal)) (a : Assignment) (uip cut : ℕ) (marks : List Bool) (kept clause : List Literal) → IsSound known a → Asserts a.lits a.reasons uip 0 marks kept cut → ((l : Literal) → Contains clause l → Contains kept l) → ((l : Literal) → Contains kept l → Contains clause l) → IsFresh known clause
-asserted_fresh known a uip cut marks kept clause sound asserts few many =
+-- below the cut the learned clause is unit
+pub asserted_unit : (known : List (List Literal)) (a : Assignment) (uip cut : ℕ) (marks : List Bool) (kept clause : List Literal) (l : Literal) → IsSound known a → Asserts a.lits a.reasons uip 0 marks kept cut → ((m : Literal) → Contains clause m → Contains kept m) → ((m : Literal) → Contains kept m → Contains clause m) → slice_get kept 0 ≡ Some l → IsUnit (take cut a.lits) clause l
+asserted_unit known a uip cut marks kept clause l sound asserts few many first =
     let x = asserts.0 in
-    let l = negation x in
+    let b = asserts.2 in
+    let is : negation x ≡ l = same_place kept 0 (negation x) l (ap (λ (ls : List Literal). slice_get ls 0) b.kept_is) first in
+    let none : (m : Literal) → m.var ≡ x.var → ¬ Contains (take cut a.lits) m = λ m e. not_false_below a.lits cut uip x m sound.apart asserts.1 e b.early in
+    let P : Literal → Type 0 = λ y. IsUnit (take cut a.lits) clause y in
+    subst P is (record {
+      member = many (negation x) (place_member kept 0 (negation x) (ap (λ (ls : List Literal). slice_get ls 0) b.kept_is));
+      no_value = (none (negation x) refl, none (negation (negation x)) refl);
+      others = λ k d h.
+          let m = get_or clause k d in
+          let in_kept = few m (Contains-get_or clause k d h) in
+          head_or_other (negation x) b.others m (IsFalse (take cut a.lits)) (subst (λ (ls : List Literal). Contains ls m) b.kept_is in_kept) b.lower;
+    })
+
+-- and false last was the second of the kept literals
+pub asserted_second : (a : Assignment) (uip cut : ℕ) (marks : List Bool) (kept clause : List Literal) (second : Option Literal) → AreApart a.lits → Asserts a.lits a.reasons uip 0 marks kept cut → ((m : Literal) → Contains kept m → Contains clause m) → slice_get kept 1 ≡ second → IsSecond a cut clause second
+asserted_second a uip cut marks kept clause None apart asserts many is =
+    let b = asserts.2 in
+    λ d lt e.
+    let level = b.levels d (omega arith) lt e in
+    let clash : None ≡ Some level.0 = sym is ∙ ap (λ (ls : List Literal). slice_get ls 1) b.kept_is ∙ level.1 in
+    absurd (cc)
+asserted_second a uip cut marks kept clause (Some k) apart asserts many is =
+    let b = asserts.2 in
+    let first : slice_get b.others 0 ≡ Some k = ap (λ (ls : List Literal). slice_get ls 1) (sym b.kept_is) ∙ is in
+    let lower : IsFalse (take cut a.lits) k = All-contains (IsFalse (take cut a.lits)) b.others k b.lower (place_member b.others 0 k first) in
+    let at = taken_member cut a.lits (negation k) lower in (
+      many k (place_member kept 1 k is),
+      at.0,
+      at.1,
+      at.2,
+      λ d after lt e.
+          let level = b.levels d (omega arith) lt e in
+          let same : level.0 ≡ k = same_place b.others 0 level.0 k level.1 first in
+          let place : level.2 ≡ at.0 = apart level.2 at.0 (negation level.0) (negation k) level.4 at.2 (ap (λ (m : Literal). m.var) same) in
+          let le = level.3 in
+          absurd (omega arith),
+    )
+
+-- the settled set that the learned clause is fresh by
+pub asserted_fresh : (known : List (List Literal)) (a : Assignment) (uip cut : ℕ) (marks : List Bool) (kept clause : List Literal) (l : Literal) → IsSound known a → Asserts a.lits a.reasons uip 0 marks kept cut → IsUnit (take cut a.lits) clause l → IsFresh known clause
+asserted_fresh known a uip cut marks kept clause l sound asserts unit =
     let b = asserts.2 in
     let begins = slice_get_within a.reasons cut Decision b.decision in
     let same = sound.same in
     let first = element_at a.lits cut (omega arith) in
     let settled : IsSettled known (take cut a.lits) = sound.explained cut first.0 Decision first.1 b.decision in
-    let none : (m : Literal) → m.var ≡ x.var → ¬ Contains (take cut a.lits) m = λ m e. not_false_below a.lits cut uip x m sound.apart asserts.1 e b.early in
-    let head : Contains kept l = subst (λ (ls : List Literal). Contains ls l) (sym b.kept_is) (0, omega arith, refl) in (
-      l,
-      (
-        take cut a.lits,
-        settled,
-        record {
-          member = many l head;
-          no_value = (none l refl, none (negation l) refl);
-          others = λ k d h.
-              let m = get_or clause k d in
-              let in_kept = few m (Contains-get_or clause k d h) in
-              head_or_other l b.others m (IsFalse (take cut a.lits)) (subst (λ (ls : List Literal). Contains ls m) b.kept_is in_kept) b.lower;
-        },
-      ),
-    )
+    (l, (take cut a.lits, settled, unit))
 
 -- and what stands below stays settled once the clause is known
 still_settled : (known : List (List Literal)) (a : Assignment) (uip cut p : ℕ) (marks : List Bool) (kept clause : List Literal) → IsSound known a → Asserts a.lits a.reasons uip 0 marks kept cut → ((l : Literal) → Contains kept l → Contains clause l) → p < cut → slice_get a.reasons p ≡ Some Decision → IsSettled known (take p a.lits) → IsSettled (known ++ clause ∷ []) (take p a.lits)
@@ -182,9 +208,10 @@ still_settled known a uip cut p marks kept clause sound asserts many lt decision
     let l_open : ¬ IsFalse set l = not_false_below a.lits p uip x (negation l) sound.apart asserts.1 refl (omega arith) in
     let level = b.levels p (omega arith) lt decision in
     let k = level.0 in
-    let k_there : Contains kept k = subst (λ (ls : List Literal). Contains ls k) (sym b.kept_is) (later_member l b.others k level.1) in
+    let k_member = place_member b.others 0 k level.1 in
+    let k_there : Contains kept k = subst (λ (ls : List Literal). Contains ls k) (sym b.kept_is) (later_member l b.others k k_member) in
     let k_open : ¬ IsFalse set k = not_false_below a.lits p level.2 (negation k) (negation k) sound.apart level.4 refl level.3 in
-    let k_lower : IsFalse (take cut a.lits) k = All-contains (IsFalse (take cut a.lits)) b.others k b.lower level.1 in
+    let k_lower : IsFalse (take cut a.lits) k = All-contains (IsFalse (take cut a.lits)) b.others k b.lower k_member in
     record {
       consistent = settled.consistent;
       no_conflict = All-push (λ c. ¬ IsFalsified set c) known clause settled.no_conflict (λ f. l_open (All-contains (IsFalse set) clause l f (many l head)));

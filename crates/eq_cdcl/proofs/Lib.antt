@@ -1,7 +1,15 @@
 pub mod Places
 pub mod Slotted
 pub mod Sounds
-pub mod Sweeping
+pub mod Staying
+pub mod Visited
+pub mod Moving
+pub mod Listed
+pub mod Quietness
+pub mod Attaching
+pub mod Started
+pub mod Returning
+pub mod Answered
 pub mod Opening
 pub mod Counting
 pub mod Resolving

@@ -1,5 +1,5 @@
 -- Variables without value, and the values of all.
-use Rattle.std.proofs.Common.{◌≡◌, ℕ, ◌+◌, ◌-◌, ◌<◌, ◌↔◌, ◌⊎◌, inl, inr, Bool, true, false, not, Option, Some, None, List, [], ◌∷◌, ◌++◌, length, IsTrue, arith, refl, sym, ap, ◌∙◌, subst}
+use Rattle.std.proofs.Common.{◌≡◌, ℕ, ◌+◌, ◌-◌, ◌↔◌, inl, inr, Bool, true, false, not, List, [], ◌∷◌, ◌++◌, length, IsTrue, arith, refl, sym, ap, ◌∙◌, subst}
 use Rattle.std.specs.Prelude.{Contains}
 use Rattle.std.proofs.lemmas.Bool.{cases_lt}
 use Rattle.std.proofs.lemmas.List.{get_or_append_left, get_or_push}
@@ -8,11 +8,6 @@ use Rattle.eq_proof.specs.Sets.{IsConsistent, HasNoValue}
 use Rattle.eq_proof.proofs.Trails.{same_variable}
 use Rattle.eq_proof.proofs.Negations.{negation_twice}
 use Rattle.eq_cdcl.specs.Halting.{AllHaveValues, GivesValues}
-
--- a literal without value, or values for all variables so far
-abbrev pub IsOpening : ℕ → List Literal → ℕ → Option Literal → Type 0
-IsOpening size lits n None = AllHaveValues n lits
-IsOpening size lits n (Some l) = (l.var < size) × HasNoValue lits l
 
 -- literals of one variable have a value or not
 no_value_too : (lits : List Literal) (l m : Literal) → l.var ≡ m.var → HasNoValue lits l → HasNoValue lits m
@@ -24,16 +19,9 @@ no_value_too lits l m e none =
           (λ h. none.1 (subst (Contains lits) is h), λ h. none.0 (subst (Contains lits) twice h))
     ]
 
-pub opening_found : (size : ℕ) (lits : List Literal) (n : ℕ) (best : Option Literal) (l r : Literal) → IsOpening size lits n best → l.var < size → HasNoValue lits l → (r ≡ l) ⊎ (best ≡ Some r) → (r.var < size) × HasNoValue lits r
-opening_found size lits n best l r so within none which =
-    elim which [
-      | inl is ↦ (let P : Literal → Type 0 = λ r. (r.var < size) × HasNoValue lits r in subst P (sym is) (within, none))
-      | inr is ↦ subst (IsOpening size lits n) is so
-    ]
-
-pub opening_taken : (size : ℕ) (lits : List Literal) (n : ℕ) (best : Option Literal) (l : Literal) → IsOpening size lits n best → l.var ≡ n + 1 → ¬ HasNoValue lits l → IsOpening size lits (n + 1) best
-opening_taken size lits n (Some b) l so is value = so
-opening_taken size lits n None l so is value = λ m proper h none.
+-- one variable more that has a value
+pub valued_more : (lits : List Literal) (n : ℕ) (l : Literal) → AllHaveValues n lits → l.var ≡ n + 1 → ¬ HasNoValue lits l → AllHaveValues (n + 1) lits
+valued_more lits n l so is value m proper h none =
     elim (cases_lt n m.var) [
       | inl above ↦ value (no_value_too lits m l (omega arith) none)
       | inr below ↦ so m proper below none

@@ -1,7 +1,9 @@
 -- Elements at places: after a push, in a front, members.
-use Rattle.std.proofs.Common.{◌≡◌, ℕ, ◌<◌, suc, zero, ◌⊎◌, inl, inr, List, [], ◌∷◌, ◌++◌, length, take, slice_get, Some, arith, refl, sym, ap, ◌∙◌}
+use Rattle.std.proofs.Common.{◌≡◌, ℕ, ◌+◌, ◌-◌, ◌<◌, suc, zero, ◌⊎◌, inl, inr, List, [], ◌∷◌, ◌++◌, length, take, slice_get, Some, arith, refl, sym, ap, ◌∙◌}
 use Rattle.std.specs.Prelude.{Contains}
 use Rattle.std.proofs.lemmas.Option.{slice_get_within, get_or_from_slice_get, slice_get-get_or, same_Some}
+use Rattle.eq_proof.specs.Literal.{Literal}
+use Rattle.eq_proof.specs.Derivation.{HasNumber}
 
 pub member_place : {X : Type 0} (xs : List X) (x : X) → Contains xs x → (place : ℕ) × (slice_get xs place ≡ Some x)
 member_place xs x h = (h.0, slice_get-get_or xs h.0 x h.1 ∙ ap Some h.2)
@@ -53,3 +55,7 @@ pub element_at : {X : Type 0} (xs : List X) (k : ℕ) → k < length xs → (x :
 element_at [] k h = absurd (omega arith)
 element_at (x ∷ xs) zero h = (x, refl)
 element_at (x ∷ xs) (suc k) h = element_at xs k (omega arith)
+
+-- the clause at a place has the next number
+pub number_at : (known : List (List Literal)) (place : ℕ) (clause : List Literal) → slice_get known place ≡ Some clause → HasNumber known (place + 1) clause
+number_at known place clause at = (omega arith, (let e : place + 1 - 1 ≡ place = omega arith in ap (λ n. slice_get known n) e ∙ at))

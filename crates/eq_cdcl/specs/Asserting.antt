@@ -6,7 +6,7 @@
 -- decision was made; it makes the other literals false and leaves l without value. So the clause is fresh.
 -- Where a lower level begins, the clause has two literals without value, l and one of a level from there on, so
 -- what stands below stays settled once the clause is known.
-use Rattle.std.specs.Prelude.{◌≡◌, ◌≢◌, Bool, ℕ, ◌<◌, ◌≤◌, ◌⊎◌, true, List, ◌∷◌, [], ◌++◌, take, slice_get, Some, All, Contains}
+use Rattle.std.specs.Prelude.{◌≡◌, ◌≢◌, Bool, ℕ, ◌<◌, ◌≤◌, ◌⊎◌, true, List, ◌∷◌, [], ◌++◌, take, slice_get, Some, All}
 use Rattle.eq_proof.specs.Literal.{Literal, negation}
 use Rattle.eq_proof.specs.Sets.{IsFalse}
 use Rattle.eq_cdcl.specs.Resolved.{marked}
@@ -31,13 +31,13 @@ pub record Settles (lits : List Literal) (place : ℕ) (old new : List Bool) (ke
   pub kept : (kept_new ≡ kept_old) ⊎ ((marked old place ≡ true) × Keeps lits place kept_old kept_new)
   pub marks : (q : ℕ) → q < place → marked new q ≡ true → (marked old q ≡ true) ⊎ (marked old place ≡ true)
 
--- the first kept literal is l; the others are false below `cut`, where a level begins; what is still marked is below it; and for each level that begins lower, down to a place, one of the others is of that level or a higher one
+-- the first kept literal is l; the others are false below `cut`, where a level begins; what is still marked is below it; and for each level that begins lower, down to a place, the first of the others is of that level or a higher one
 pub record IsAsserting (lits : List Literal) (reasons : List Reason) (l : Literal) (uip place : ℕ) (marks : List Bool) (kept : List Literal) (cut : ℕ) : Type 0 where
   pub others : List Literal
   pub kept_is : kept ≡ l ∷ others
   pub lower : All (IsFalse (take cut lits)) others
   pub below : (p : ℕ) → p < place → marked marks p ≡ true → p < cut
-  pub levels : (p : ℕ) → place ≤ p → p < cut → slice_get reasons p ≡ Some Decision → (k : Literal) × Contains others k × (q : ℕ) × (p ≤ q) × (slice_get lits q ≡ Some (negation k))
+  pub levels : (p : ℕ) → place ≤ p → p < cut → slice_get reasons p ≡ Some Decision → (k : Literal) × (slice_get others 0 ≡ Some k) × (q : ℕ) × (p ≤ q) × (slice_get lits q ≡ Some (negation k))
   pub decision : slice_get reasons cut ≡ Some Decision
   pub early : cut ≤ uip
 

@@ -4,9 +4,9 @@ pub mod Knowledge
 pub mod Judged
 pub mod Sound
 pub mod Found
-pub mod Sweeps
 pub mod Halting
 pub mod Resolved
 pub mod Asserting
 pub mod Logged
 pub mod Answer
+pub mod inner

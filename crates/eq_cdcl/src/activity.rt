@@ -1,21 +1,30 @@
-//! Which variable to decide: one that stood in many clauses learned of late.
+//! Which variable to decide: one that the analysis of many conflicts of late came upon.
 use eq_base::Memory;
 use eq_proof::Lit;
 use std::alloc::Global;
 
-/// A score for each variable, and what the next learned clause adds to those of its variables.
+/// A score for each variable, and what the analysis of a conflict adds to the scores of the variables that it marks.
 #[derive(Debug, Drop)]
 pub struct Activity {
     scores: Vec<u64>,
     weight: u64,
 }
 
+/// The first weight, large enough that a sixteenth of it is a whole number.
+const FIRST_WEIGHT: u64 = 1 << 20;
+
+/// A weight from which on all scores are scaled down.
+const LARGE_WEIGHT: u64 = 1 << 58;
+
+/// How many bits the scores and the weight lose then.
+const SCALED_BITS: u32 = 38;
+
 impl Activity {
     /// All variables below `size` have the score 0.
     pub fn new(alloc: Global, size: usize) -> Result<Activity, Memory> {
         Ok(Activity {
             scores: vec![in alloc; 0; size]?,
-            weight: 1,
+            weight: FIRST_WEIGHT,
         })
     }
 
@@ -23,13 +32,26 @@ impl Activity {
         self.scores.get(var as usize).copied().unwrap_or(0)
     }
 
-    /// Raises the scores of a learned clause's variables. A later clause weighs more.
-    pub fn bump(&mut self, clause: &[Lit]) {
-        for l in clause {
-            if let Some(score) = self.scores.get_mut(l.var() as usize) {
-                *score = score.saturating_add(self.weight);
-            }
+    /// Raises the score of a variable that the analysis of a conflict marks.
+    pub fn bump(&mut self, l: Lit) {
+        if let Some(score) = self.scores.get_mut(l.var() as usize) {
+            *score = score.saturating_add(self.weight);
         }
-        self.weight = self.weight.saturating_add(1);
+    }
+
+    /// Ends the analysis of a conflict. The next one weighs more by a sixteenth.
+    pub fn decay(&mut self) {
+        self.weight = self.weight.saturating_add(self.weight / 16);
+        if self.weight >= LARGE_WEIGHT {
+            self.scale_down();
+        }
+    }
+
+    // Scales all scores and the weight down alike.
+    fn scale_down(&mut self) {
+        for score in &mut self.scores {
+            *score = *score >> SCALED_BITS;
+        }
+        self.weight = self.weight >> SCALED_BITS;
     }
 }

@@ -5,6 +5,7 @@ ghost use Rattle.eq_cdcl.specs.Found.{IsConflict};
 ghost use Rattle.eq_cdcl.specs.Resolved.{marked, opens, IsResolved};
 ghost use Rattle.eq_cdcl.specs.Asserting.{IsLastDecision, HasNoDecision, Keeps, Settles, Asserts};
 
+use crate::heuristics::Heuristics;
 use crate::known::Known;
 use crate::levels::root_len;
 use crate::marking::{is_marked, mark_all};
@@ -43,6 +44,7 @@ impl Analysis {
         &mut self,
         trail: &Trail,
         known: &Known<'_>,
+        heuristics: &mut Heuristics,
         conflict: u64,
         start: usize,
     ) -> Result<usize, Memory>
@@ -67,6 +69,7 @@ impl Analysis {
             known.numbered(conflict),
             start,
             trail.len(),
+            heuristics,
         );
         self.ants.push(conflict)?;
         Ok(more)
@@ -77,6 +80,7 @@ impl Analysis {
         &mut self,
         trail: &Trail,
         known: &Known<'_>,
+        heuristics: &mut Heuristics,
         count: usize,
         start: usize,
     ) -> Result<usize, Memory>
@@ -106,7 +110,7 @@ impl Analysis {
             }
             match trail.reason(place) {
                 Reason::Implied(number) => {
-                    let more = self.resolve(trail, known, place, number, start)?;
+                    let more = self.resolve(trail, known, heuristics, place, number, start)?;
                     count = count - 1 + more;
                 }
                 Reason::Decision => unreachable!(),
@@ -122,6 +126,7 @@ impl Analysis {
         &mut self,
         trail: &Trail,
         known: &Known<'_>,
+        heuristics: &mut Heuristics,
         uip: usize,
         start: usize,
     ) -> Result<usize, Memory>
@@ -138,7 +143,7 @@ impl Analysis {
         let root = root_len(trail);
         let mut cut = start;
         for place in (0..uip).rev() {
-            self.settle(trail, known, place, root)?;
+            self.settle(trail, known, heuristics, place, root)?;
             if self.begins_level(trail, place) {
                 cut = place;
             }
@@ -147,7 +152,12 @@ impl Analysis {
     }
 
     /// Resolves all literals away.
-    pub fn refute(&mut self, trail: &Trail, known: &Known<'_>) -> Result<(), Memory>
+    pub fn refute(
+        &mut self,
+        trail: &Trail,
+        known: &Known<'_>,
+        heuristics: &mut Heuristics,
+    ) -> Result<(), Memory>
         requires sound { IsSound known.now trail.now }
         requires root { HasNoDecision trail.now.reasons }
         requires resolved { IsResolved known.now trail.now.lits
@@ -162,7 +172,7 @@ impl Analysis {
             }
             match trail.reason(place) {
                 Reason::Implied(number) => {
-                    let _ = self.resolve(trail, known, place, number, place)?;
+                    let _ = self.resolve(trail, known, heuristics, place, number, place)?;
                 }
                 Reason::Decision => unreachable!(),
             }
@@ -199,6 +209,7 @@ impl Analysis {
         &mut self,
         trail: &Trail,
         known: &Known<'_>,
+        heuristics: &mut Heuristics,
         place: usize,
         root: usize,
     ) -> Result<(), Memory>
@@ -221,7 +232,7 @@ impl Analysis {
                 if root <= place {
                     self.keep(trail, place)
                 } else {
-                    let _ = self.resolve(trail, known, place, number, place)?;
+                    let _ = self.resolve(trail, known, heuristics, place, number, place)?;
                     Ok(())
                 }
             }
@@ -233,6 +244,7 @@ impl Analysis {
         &mut self,
         trail: &Trail,
         known: &Known<'_>,
+        heuristics: &mut Heuristics,
         place: usize,
         number: u64,
         start: usize,
@@ -257,6 +269,7 @@ impl Analysis {
             known.numbered(number),
             start,
             place + 1,
+            heuristics,
         );
         self.marks.set(place, false);
         self.ants.push(number)?;

@@ -1,17 +1,15 @@
 //! From a conflict to the step that is logged.
-ghost use Rattle.std.specs.Prelude.{◌≡◌, ◌≤◌, ◌↔◌, ◌++◌, ◌∷◌, [], ℕ, false, All, Contains, length, reverse, IfOk};
+ghost use Rattle.std.specs.Prelude.{◌≡◌, ◌<◌, ◌≤◌, ◌↔◌, [], ℕ, false, Some, All, Contains, length, reverse, slice_get, IfOk};
 ghost use Rattle.eq_proof.specs.Literal.{Literal};
-ghost use Rattle.eq_proof.specs.Assigned.{AllBelow};
 ghost use Rattle.eq_proof.specs.Derivation.{IsDerivation};
-ghost use Rattle.eq_proof.specs.Fresh.{IsFresh};
-ghost use Rattle.eq_cdcl.specs.Assignment.{cut_to};
 ghost use Rattle.eq_cdcl.specs.Sound.{IsSound};
 ghost use Rattle.eq_cdcl.specs.Found.{IsConflict};
 ghost use Rattle.eq_cdcl.specs.Resolved.{marked};
 ghost use Rattle.eq_cdcl.specs.Asserting.{IsLastDecision, HasNoDecision};
+ghost use Rattle.eq_cdcl.specs.inner.Teaching.{Teaches};
 
-use crate::activity::Activity;
 use crate::analysis::Analysis;
+use crate::heuristics::Heuristics;
 use crate::known::Known;
 use crate::trail::Trail;
 use eq_base::{Bits, Items, Memory, Numbers};
@@ -22,6 +20,10 @@ use std::alloc::Global;
 #[derive(Debug, Drop)]
 pub struct Learned {
     pub step: Step,
+    /// The literal of its clause that is to become true.
+    pub literal: Lit,
+    /// Of the clause's other literals the one that became false last, if there is one.
+    pub second: Option<Lit>,
     /// How many literals of the trail stay: those up to the asserting level.
     pub cut: usize,
     /// The marks of the analysis, all unset again.
@@ -33,7 +35,7 @@ pub fn learn(
     alloc: Global,
     trail: &Trail,
     known: &Known<'_>,
-    activity: &mut Activity,
+    heuristics: &mut Heuristics,
     marks: Bits,
     conflict: u64,
     start: usize,
@@ -43,25 +45,42 @@ pub fn learn(
     requires start { IsLastDecision trail.now.reasons start }
     requires clear { (p : ℕ) → marked marks p ≡ false }
     requires room { length trail.now.lits ≤ length marks }
-    ensures derived { IfOk result (λ learned. IsDerivation known.now learned.step) }
-    ensures fresh { IfOk result (λ learned. IsFresh known.now learned.step.clause) }
-    ensures below { IfOk result (λ learned. AllBelow trail.now.size learned.step.clause) }
-    ensures cut { IfOk result (λ learned. learned.cut ≤ length trail.now.lits) }
-    ensures sound { IfOk result
-        (λ learned. IsSound (known.now ++ learned.step.clause ∷ [])
-        (cut_to learned.cut trail.now)) }
+    ensures teaches { IfOk result (Teaches known.now trail.now) }
     ensures clear { IfOk result (λ learned. (p : ℕ) → marked learned.marks p ≡ false) }
     ensures room { IfOk result (λ learned. length learned.marks ≡ length marks) }
 {
     let mut analysis = Analysis::new(alloc, marks);
-    let count = analysis.begin(trail, known, conflict, start)?;
-    let uip = analysis.find_uip(trail, known, count, start)?;
+    let count = analysis.begin(trail, known, heuristics, conflict, start)?;
+    let uip = analysis.find_uip(trail, known, heuristics, count, start)?;
     analysis.keep(trail, uip)?;
-    let cut = analysis.collect(trail, known, uip, start)?;
+    let cut = analysis.collect(trail, known, heuristics, uip, start)?;
     let Analysis { marks, kept, ants } = analysis;
-    activity.bump(kept.as_slice());
+    heuristics.decay();
+    let literal = first_of(kept.as_slice());
+    let second = second_of(&kept);
     let step = into_step(alloc, &kept, ants)?;
-    Ok(Learned { step, cut, marks })
+    Ok(Learned {
+        step,
+        literal,
+        second,
+        cut,
+        marks,
+    })
+}
+
+// The first of some literals.
+fn first_of(kept: &[Lit]) -> Lit
+    requires { 0 < length kept.now }
+    ensures { slice_get kept.now 0 ≡ Some result }
+{
+    kept[0]
+}
+
+// The second, if there is one.
+fn second_of(kept: &Items<Lit>) -> Option<Lit>
+    ensures { slice_get kept.now 1 ≡ result }
+{
+    kept.get(1).copied()
 }
 
 /// Derives the empty clause from a conflict on level 0.
@@ -69,6 +88,7 @@ pub fn refute(
     alloc: Global,
     trail: &Trail,
     known: &Known<'_>,
+    heuristics: &mut Heuristics,
     marks: Bits,
     conflict: u64,
 ) -> Result<Step, Memory>
@@ -81,8 +101,8 @@ pub fn refute(
     ensures empty { IfOk result (λ step. step.clause ≡ []) }
 {
     let mut analysis = Analysis::new(alloc, marks);
-    let _ = analysis.begin(trail, known, conflict, 0)?;
-    analysis.refute(trail, known)?;
+    let _ = analysis.begin(trail, known, heuristics, conflict, 0)?;
+    analysis.refute(trail, known, heuristics)?;
     let none = Items::new(alloc);
     let step = into_step(alloc, &none, analysis.ants)?;
     Ok(step)

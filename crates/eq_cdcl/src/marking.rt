@@ -4,6 +4,7 @@ ghost use Rattle.eq_cdcl.specs.Slots.{HasVariable};
 ghost use Rattle.eq_cdcl.specs.Sound.{AreApart};
 ghost use Rattle.eq_cdcl.specs.Resolved.{marked, opens, MarksToo};
 
+use crate::heuristics::Heuristics;
 use crate::trail::Trail;
 use eq_base::{Bits, Memory};
 use eq_proof::Lit;
@@ -25,7 +26,16 @@ pub fn is_marked(marks: &Bits, place: usize) -> bool
 }
 
 /// Marks the places of a clause's literals, which are below `end`, and answers how many of those from `start` on are new.
-pub fn mark_all(marks: &mut Bits, trail: &Trail, clause: &[Lit], start: usize, end: usize) -> usize
+///
+/// The scores of the variables that are marked rise.
+pub fn mark_all(
+    marks: &mut Bits,
+    trail: &Trail,
+    clause: &[Lit],
+    start: usize,
+    end: usize,
+    heuristics: &mut Heuristics,
+) -> usize
     requires apart { AreApart trail.now.lits }
     requires variables { All (λ l. HasVariable (take end trail.now.lits) l.var) clause.now }
     requires room { length trail.now.lits ≤ length marks.old }
@@ -34,12 +44,19 @@ pub fn mark_all(marks: &mut Bits, trail: &Trail, clause: &[Lit], start: usize, e
 {
     let mut more = 0;
     for l in clause {
-        more += mark(marks, trail, *l, start, end);
+        more += mark(marks, trail, *l, start, end, heuristics);
     }
     more
 }
 
-fn mark(marks: &mut Bits, trail: &Trail, l: Lit, start: usize, end: usize) -> usize
+fn mark(
+    marks: &mut Bits,
+    trail: &Trail,
+    l: Lit,
+    start: usize,
+    end: usize,
+    heuristics: &mut Heuristics,
+) -> usize
     requires apart { AreApart trail.now.lits }
     requires variable { HasVariable (take end trail.now.lits) l.var }
     requires room { length trail.now.lits ≤ length marks.old }
@@ -51,5 +68,6 @@ fn mark(marks: &mut Bits, trail: &Trail, l: Lit, start: usize, end: usize) -> us
         return 0;
     }
     marks.set(place, true);
+    heuristics.bump(l);
     if start <= place { 1 } else { 0 }
 }

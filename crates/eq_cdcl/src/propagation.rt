@@ -1,13 +1,15 @@
-//! Unit propagation by sweeps over all clauses.
-ghost use Rattle.std.specs.Prelude.{◌≡◌, ◌≤◌, All, length, IfOk, OnOk, MatchBool};
+//! Unit propagation by two watched literals a clause (Moskewicz, Madigan, Zhao, Zhang, Malik, 'Chaff', 2001).
+ghost use Rattle.std.specs.Prelude.{◌≡◌, ◌≤◌, All, length, IfOk, OnOk};
 ghost use Rattle.eq_proof.specs.Assigned.{AllBelow};
 ghost use Rattle.eq_cdcl.specs.Sound.{IsSound};
 ghost use Rattle.eq_cdcl.specs.Found.{Finds};
-ghost use Rattle.eq_cdcl.specs.Sweeps.{FindsInSweep};
+ghost use Rattle.eq_cdcl.specs.inner.Watched.{Watching};
+ghost use Rattle.eq_cdcl.specs.inner.Propagating.{IsAtEnd};
 
-use crate::judgement::{Judgement, judge};
 use crate::known::Known;
-use crate::trail::{Reason, Trail};
+use crate::trail::Trail;
+use crate::visiting::visit;
+use crate::watches::Watches;
 use eq_base::Memory;
 
 /// What propagation comes to.
@@ -19,67 +21,30 @@ pub enum Propagated {
     Settled,
 }
 
-/// What a sweep over all clauses finds.
-#[derive(Clone, Copy, Debug)]
-pub enum Swept {
-    /// The clause with this number is falsified.
-    Conflict(u64),
-    /// A literal became true.
-    Changed,
-    /// No clause is falsified and none is unit.
-    Settled,
-}
-
 /// Makes the literals of unit clauses true until a clause is falsified or none is unit.
 ///
-/// A sweep costs the length of all clauses, and there is at most one more than literals become true.
-pub fn propagate(trail: &mut Trail, known: &Known<'_>) -> Result<Propagated, Memory>
+/// Each literal of the trail that hasn't been visited is, in order. Its cost is that of the clauses that watch its
+/// negation.
+pub fn propagate(
+    trail: &mut Trail,
+    watches: &mut Watches,
+    known: &Known<'_>,
+) -> Result<Propagated, Memory>
     requires below { All (AllBelow trail.old.size) known.now }
     requires sound { IsSound known.now trail.old }
+    requires watching { Watching known.now trail.old watches.old }
     ensures sound { OnOk result (IsSound known.now trail.new) }
+    ensures watching { OnOk result (Watching known.now trail.new watches.new) }
     ensures found { IfOk result (Finds known.now trail.new.lits) }
+    ensures end { IfOk result (IsAtEnd trail.new watches.new) }
     ensures size { OnOk result (trail.new.size ≡ trail.old.size) }
     ensures longer { OnOk result (length trail.old.lits ≤ length trail.new.lits) }
 {
-    loop {
-        match sweep(trail, known)? {
-            Swept::Conflict(number) => return Ok(Propagated::Conflict(number)),
-            Swept::Changed => {}
-            Swept::Settled => return Ok(Propagated::Settled),
+    while watches.head < trail.len() {
+        match visit(trail, watches, known)? {
+            Some(number) => return Ok(Propagated::Conflict(number)),
+            None => watches.head += 1,
         }
     }
-}
-
-// Judges each clause once, and makes the literal of a unit clause true at once.
-fn sweep(trail: &mut Trail, known: &Known<'_>) -> Result<Swept, Memory>
-    requires below { All (AllBelow trail.old.size) known.now }
-    requires sound { IsSound known.now trail.old }
-    ensures sound { OnOk result (IsSound known.now trail.new) }
-    ensures found { IfOk result (FindsInSweep known.now trail.old trail.new) }
-    ensures size { OnOk result (trail.new.size ≡ trail.old.size) }
-    ensures longer { OnOk result (length trail.old.lits ≤ length trail.new.lits) }
-{
-    let mut changed = false;
-    for place in 0..known.len() {
-        match judge(trail, known.at(place)) {
-            Judgement::Conflict => return Ok(Swept::Conflict(place + 1)),
-            Judgement::Propagates(l) => {
-                trail.assign(l, Reason::Implied(place + 1))?;
-                changed = true;
-            }
-            Judgement::Idle => {}
-        }
-    }
-    Ok(found(changed))
-}
-
-// What a sweep without conflict found.
-fn found(changed: bool) -> Swept
-    ensures { MatchBool changed (result ≡ Swept.Changed) (result ≡ Swept.Settled) }
-{
-    if changed {
-        Swept::Changed
-    } else {
-        Swept::Settled
-    }
+    Ok(Propagated::Settled)
 }

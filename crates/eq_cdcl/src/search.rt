@@ -1,14 +1,16 @@
 //! Propagation and decisions in turn, up to a conflict or to values for all variables.
-ghost use Rattle.std.specs.Prelude.{◌≡◌, ◌<◌, ◌≤◌, ◌⊎◌, Some, All, length, IfOk, OnOk, IfSome, IfNone};
+ghost use Rattle.std.specs.Prelude.{◌≡◌, ◌<◌, ◌≤◌, All, length, IfOk, OnOk, IfSome, IfNone};
 ghost use Rattle.eq_proof.specs.Assigned.{AllBelow};
 ghost use Rattle.eq_proof.specs.Sets.{HasNoValue, IsConsistent};
 ghost use Rattle.eq_cdcl.specs.Sound.{IsSound};
 ghost use Rattle.eq_cdcl.specs.Halting.{Halts, AllHaveValues, GivesValues};
+ghost use Rattle.eq_cdcl.specs.inner.Watched.{Watching};
 
-use crate::activity::Activity;
+use crate::heuristics::Heuristics;
 use crate::known::Known;
 use crate::propagation::{Propagated, propagate};
 use crate::trail::{Reason, Trail, Value};
+use crate::watches::Watches;
 use eq_base::{Bits, Memory};
 use eq_proof::Lit;
 use std::alloc::Global;
@@ -27,21 +29,24 @@ const LAST_VARIABLE: u32 = 0x7fff_ffff;
 /// Decides and propagates until a clause is falsified or all variables have values.
 pub fn search(
     trail: &mut Trail,
+    watches: &mut Watches,
     known: &Known<'_>,
-    activity: &Activity,
+    heuristics: &mut Heuristics,
     vars: u32,
 ) -> Result<Halt, Memory>
     requires vars { vars < trail.old.size }
     requires below { All (AllBelow trail.old.size) known.now }
     requires sound { IsSound known.now trail.old }
+    requires watching { Watching known.now trail.old watches.old }
     ensures sound { OnOk result (IsSound known.now trail.new) }
+    ensures watching { OnOk result (Watching known.now trail.new watches.new) }
     ensures found { IfOk result (Halts known.now vars trail.new.lits) }
     ensures size { OnOk result (trail.new.size ≡ trail.old.size) }
 {
     loop {
-        match propagate(trail, known)? {
+        match propagate(trail, watches, known)? {
             Propagated::Conflict(number) => return Ok(Halt::Conflict(number)),
-            Propagated::Settled => match open_literal(trail, activity, vars) {
+            Propagated::Settled => match decide(trail, heuristics, vars) {
                 Some(l) => trail.assign(l, Reason::Decision)?,
                 None => return Ok(Halt::Satisfied),
             },
@@ -49,39 +54,55 @@ pub fn search(
     }
 }
 
-// The negative literal of a variable without value that has the highest score, the first of several.
-fn open_literal(trail: &Trail, activity: &Activity, vars: u32) -> Option<Lit>
+// A literal of a variable without value: the first one in the heuristics' order. Where no variable is left there, all are
+// looked at.
+fn decide(trail: &Trail, heuristics: &mut Heuristics, vars: u32) -> Option<Lit>
     requires { vars < trail.now.size }
     ensures within { IfSome result (λ l. l.var < trail.now.size) }
     ensures no_value { IfSome result (λ l. HasNoValue trail.now.lits l) }
     ensures none { IfNone result (AllHaveValues vars trail.now.lits) }
 {
-    let mut best: Option<Lit> = None;
+    while let Some((var, sign)) = heuristics.next() {
+        if let Some(l) = open_literal(trail, vars, var, sign) {
+            return Some(l);
+        }
+    }
+    first_open(trail, vars)
+}
+
+// A variable's literal with a sign, where it is one of the first `vars` and has no value.
+fn open_literal(trail: &Trail, vars: u32, var: u32, sign: bool) -> Option<Lit>
+    requires { vars < trail.now.size }
+    ensures within { IfSome result (λ l. l.var < trail.now.size) }
+    ensures no_value { IfSome result (λ l. HasNoValue trail.now.lits l) }
+{
+    if var == 0 || vars < var || LAST_VARIABLE < var {
+        return None;
+    }
+    let l = Lit::new(var, sign);
+    match trail.value(l) {
+        Value::Unassigned => Some(l),
+        Value::True => None,
+        Value::False => None,
+    }
+}
+
+// The negative literal of the first variable without value.
+fn first_open(trail: &Trail, vars: u32) -> Option<Lit>
+    requires { vars < trail.now.size }
+    ensures within { IfSome result (λ l. l.var < trail.now.size) }
+    ensures no_value { IfSome result (λ l. HasNoValue trail.now.lits l) }
+    ensures none { IfNone result (AllHaveValues vars trail.now.lits) }
+{
     for before in 0..vars.min(LAST_VARIABLE) {
         let l = Lit::new(before + 1, false);
         match trail.value(l) {
-            Value::Unassigned => best = Some(better(activity, best, l)),
+            Value::Unassigned => return Some(l),
             Value::True => {}
             Value::False => {}
         }
     }
-    best
-}
-
-// The literal with the higher score, the first where they are equal.
-fn better(activity: &Activity, best: Option<Lit>, l: Lit) -> Lit
-    ensures { (result ≡ l) ⊎ (best ≡ Some result) }
-{
-    match best {
-        Some(first) => {
-            if activity.score(first.var()) < activity.score(l.var()) {
-                l
-            } else {
-                first
-            }
-        }
-        None => l,
-    }
+    None
 }
 
 /// The values of the variables from 1 to `vars`, false where there is none.

@@ -128,6 +128,7 @@ impl Trail {
         requires no_value { HasNoValue self.old.lits l }
         ensures ok { OnOk result (self.new ≡ extended self.old l reason) }
         ensures room { OnOk result (length self.new.lits ≤ self.new.size) }
+        ensures proper { OnOk result (IsProper l) }
     {
         let place = self.lits.len();
         self.reasons.push(reason)?;

@@ -5,12 +5,14 @@ use Rattle.eq_cdcl.specs.Knowledge.{known_of}
 use Rattle.eq_cdcl.specs.Sound.{IsSound}
 use Rattle.eq_cdcl.specs.Resolved.{marked}
 use Rattle.eq_cdcl.specs.Logged.{IsLogged}
+use Rattle.eq_cdcl.specs.inner.Watched.{Watching}
 use Rattle.eq_cdcl.proofs.solver.run.Given as goal
 
 abbrev pub invariant-loop-log : goal.invariant-loop-log
 invariant-loop-log l = record {
   size : l.trail.size ≡ l.f.vars + 1;
   sound : IsSound (known_of l.f.clauses l.log) l.trail;
+  watching : Watching (known_of l.f.clauses l.log) l.trail l.watches;
   below : All (AllBelow l.trail.size) (known_of l.f.clauses l.log);
   clear : (p : ℕ) → marked l.marks p ≡ false;
   room : length l.marks ≡ l.trail.size;

@@ -1,0 +1,6 @@
+pub mod Answering
+pub mod Listing
+pub mod Propagating
+pub mod Teaching
+pub mod Visiting
+pub mod Watched
