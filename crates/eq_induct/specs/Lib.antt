@@ -1,0 +1,4 @@
+pub mod Answers
+pub mod Attempts
+pub mod Outcome
+pub mod inner
