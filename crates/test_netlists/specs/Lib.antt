@@ -1,1 +1,4 @@
 pub mod Counter
+pub mod Forms
+pub mod Operators
+pub mod Steps

@@ -12,10 +12,10 @@ use eq_names::Name;
 use std::alloc::Global;
 use std::test::Fail;
 
-/// One output whose sides are one node, and one that differs where the counter is at 2.
+/// One output whose sides are one node, one that differs where the counter is at 2, and one that does so at 2 and at 3.
 fn outputs(alloc: Global) -> Result<Outputs, Fail>
     ensures nodes { IfOk result (All (NamesNodes 11)) }
-    ensures count { IfOk result (λ outputs. length outputs ≡ 2) }
+    ensures count { IfOk result (λ outputs. length outputs ≡ 3) }
 {
     let mut outputs = Outputs::new(alloc);
     outputs.push(Output {
@@ -26,6 +26,11 @@ fn outputs(alloc: Global) -> Result<Outputs, Fail>
     outputs.push(Output {
         name: Name::read(alloc, b"y")?,
         gold: 7,
+        gate: 8,
+    })?;
+    outputs.push(Output {
+        name: Name::read(alloc, b"z")?,
+        gold: 1,
         gate: 8,
     })?;
     Ok(outputs)
@@ -175,10 +180,18 @@ fn run(alloc: Global, regs: &[bool; 2], inputs: &[bool]) -> Result<Run, Fail>
 fn finds_the_first_difference_of_a_run(rt: HostRuntime) -> Result<(), Fail> {
     let part = counter(rt.alloc())?;
     let mut scratch = Scratch::new(rt.alloc(), &part)?;
-    let rows: [([bool; 2], [bool; 4], Option<(u32, u32)>); 4] = [
+    let rows: [([bool; 2], [bool; 4], Option<(u32, u32)>); 6] = [
+        // the counter is at 0, 1, 2, 3
         ([false, false], [true, true, true, true], Some((2, 1))),
+        // 2, 3, 0, 1
         ([false, true], [true, true, true, true], Some((0, 1))),
+        // 1, 1, 2, 2
         ([true, false], [false, true, false, true], Some((2, 1))),
+        // 3, 0, 1, 2
+        ([true, true], [true, true, true, true], Some((0, 2))),
+        // 3, 3, 3, 3
+        ([true, true], [false, false, false, false], Some((0, 2))),
+        // 0, 0, 1, 1
         ([false, false], [false, true, false, false], None),
     ];
     for (regs, inputs, wanted) in rows {

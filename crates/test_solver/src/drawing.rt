@@ -98,9 +98,10 @@ fn satisfied(numbers: &[i16], others: u32) -> u64 {
     all
 }
 
-/// Whether one of all lists of twenty values satisfies all clauses.
-fn is_satisfiable(numbers: &[i16]) -> bool {
-    for others in 0..0x4000u32 {
+/// Whether one of all lists of values of so many variables, at most 37, satisfies all clauses.
+pub(crate) fn is_satisfiable(numbers: &[i16], variables: u32) -> bool {
+    let lists = 1u32 << variables.saturating_sub(6).min(31);
+    for others in 0..lists {
         if satisfied(numbers, others) != 0 {
             return true;
         }
@@ -145,7 +146,7 @@ fn drawn(alloc: Global, draw: &mut Draw) -> Result<Option<bool>, Fail> {
     let numbers = draw_numbers(alloc, draw)?;
     let numbers = numbers.as_slice();
     let f = formula(alloc, 20, numbers)?;
-    let want = is_satisfiable(numbers);
+    let want = is_satisfiable(numbers, 20);
     let agrees = agrees(alloc, &f, numbers, want, 1_000_000)?
         && agrees(alloc, &f, numbers, want, 2)?;
     Ok(if agrees { Some(want) } else { None })

@@ -1,6 +1,7 @@
 //! The solver's answers, checked by the checker of logs.
 
 use crate::values::{PIGEONS, formula};
+use eq_base::Memory;
 use eq_cdcl::{Solved, solve};
 use eq_proof::{Checked, Formula, Log, check, first_stale};
 use std::alloc::Global;
@@ -57,7 +58,14 @@ struct Case {
 /// Both values of two variables are ruled out, which takes one learned clause.
 const BOTH: [i16; 12] = [1, 2, 0, 1, -2, 0, -1, 2, 0, -1, -2, 0];
 
-const CASES: [Case; 12] = [
+/// All values of three variables are ruled out. Whichever is decided first, a clause of two literals is learned, which
+/// makes one true after going back; then one of one literal, and at level 0 another.
+const EIGHT: [i16; 32] = [
+    1, 2, 3, 0, 1, 2, -3, 0, 1, -2, 3, 0, 1, -2, -3, 0, // 1 is false
+    -1, 2, 3, 0, -1, 2, -3, 0, -1, -2, 3, 0, -1, -2, -3, 0, // 1 is true
+];
+
+const CASES: [Case; 14] = [
     Case {
         vars: 12,
         clauses: &PIGEONS,
@@ -131,6 +139,18 @@ const CASES: [Case; 12] = [
         budget: 1,
         want: Want::Unsat(Some(2)),
     },
+    Case {
+        vars: 3,
+        clauses: &EIGHT,
+        budget: 2,
+        want: Want::Spent(2),
+    },
+    Case {
+        vars: 3,
+        clauses: &EIGHT,
+        budget: 3,
+        want: Want::Unsat(Some(4)),
+    },
 ];
 
 /// Whether an answer is the one that is wanted, and its log shows it.
@@ -168,5 +188,46 @@ fn first_wrong(alloc: Global) -> Result<Option<usize>, Fail> {
 #[test]
 fn formulas_are_solved(rt: HostRuntime) -> Result<(), Fail> {
     assert_eq!(rt; first_wrong(rt.alloc())?, None);
+    Ok(())
+}
+
+/// How many steps a refutation of a formula has.
+fn steps_of(alloc: Global, f: &Formula) -> Result<Option<u32>, Memory> {
+    Ok(match solve(alloc, f, 20_000)? {
+        Solved::Unsat(log) => Some(log.len()),
+        _ => None,
+    })
+}
+
+/// Whether a formula is refuted within a budget.
+fn is_refuted(alloc: Global, f: &Formula, budget: u32) -> Result<bool, Memory> {
+    Ok(match solve(alloc, f, u64::from(budget.min(1_000_000)))? {
+        Solved::Unsat(log) => refutes(alloc, f, &log),
+        _ => false,
+    })
+}
+
+/// Whether a budget is spent on a formula.
+fn spends(alloc: Global, f: &Formula, budget: u32) -> Result<bool, Memory> {
+    Ok(match solve(alloc, f, u64::from(budget.min(1_000_000)))? {
+        Solved::Spent(log) => is_spent(alloc, f, &log, budget),
+        _ => false,
+    })
+}
+
+/// Whether a formula is refuted within as many learned clauses as its refutation has, and not within one less.
+fn is_exact(alloc: Global, vars: u32, clauses: &[i16]) -> Result<bool, Fail> {
+    let f = formula(alloc, vars, clauses)?;
+    let Some(steps) = steps_of(alloc, &f)? else {
+        return Ok(false);
+    };
+    let learned = steps.saturating_sub(1);
+    Ok(is_refuted(alloc, &f, learned)? && spends(alloc, &f, learned.saturating_sub(1))?)
+}
+
+#[test]
+fn pigeons_are_refuted_with_just_the_budget(rt: HostRuntime) -> Result<(), Fail> {
+    let exact = is_exact(rt.alloc(), 12, PIGEONS.as_slice())?;
+    assert!(rt; exact);
     Ok(())
 }

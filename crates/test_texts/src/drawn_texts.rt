@@ -1,9 +1,9 @@
 //! Drawn texts, which are read, printed and read again.
 
-use crate::reading::{joined, tree_of};
+use crate::reading::tree_of;
 use crate::tree_text::source_text;
 use eq_vparse::print_source;
-use std::alloc::Global;
+use std::alloc::{AllocError, Global};
 use std::test::Fail;
 
 /// The next drawn number, below 2^31.
@@ -14,120 +14,116 @@ fn draw(seed: &mut u64) -> u64 {
     *seed >> 33
 }
 
-fn primary(seed: &mut u64) -> &'static str {
-    match draw(seed) % 8 {
-        0 => "a",
-        1 => "w[2]",
-        2 => "w[3:1]",
-        3 => "4'b10_1",
-        4 => "\\x.y ",
-        5 => "{a, w}",
-        6 => "{3{a, 1'h1}}",
-        _ => "\\wire ",
-    }
-}
+const PRIMARIES: [&str; 8] = [
+    "a",
+    "w[2]",
+    "w[3:1]",
+    "4'b10_1",
+    "\\x.y ",
+    "{a, w}",
+    "{3{a, 1'h1}}",
+    "\\wire ",
+];
 
-fn operator(seed: &mut u64) -> &'static str {
-    match draw(seed) % 17 {
-        0 => "+",
-        1 => "-",
-        2 => "<<",
-        3 => ">>",
-        4 => "<",
-        5 => "<=",
-        6 => ">",
-        7 => ">=",
-        8 => "==",
-        9 => "!==",
-        10 => "&",
-        11 => "^",
-        12 => "^~",
-        13 => "|",
-        14 => "&&",
-        15 => "||",
-        _ => "===",
-    }
-}
+const OPERATORS: [&str; 17] = [
+    "+", "-", "<<", ">>", "<", "<=", ">", ">=", "==", "!==", "&", "^", "^~", "|", "&&", "||", "===",
+];
 
-fn prefix(seed: &mut u64) -> &'static str {
-    match draw(seed) % 7 {
-        0 => "~",
-        1 => "!",
-        2 => "- ",
-        3 => "~& ",
-        4 => "| ",
-        5 => "~^ ",
-        _ => "& ~",
-    }
-}
+const PREFIXES: [&str; 7] = ["~", "!", "- ", "~& ", "| ", "~^ ", "& ~"];
 
 /// One operand or operator more, round or beside an expression.
-fn wrapped(alloc: Global, seed: &mut u64, expr: &str) -> Result<String, Fail> {
-    let form = draw(seed) % 8;
-    let a = primary(seed);
-    let b = operator(seed);
-    let c = prefix(seed);
-    Ok(match form {
-        0 => format!(in alloc; "{a} {b} {expr}")?,
-        1 => format!(in alloc; "{expr} {b} {a}")?,
-        2 => format!(in alloc; "{c}({expr})")?,
-        3 => format!(in alloc; "({expr}) {b} {c}{a}")?,
-        4 => format!(in alloc; "{{{a}, {expr}}}")?,
-        5 => format!(in alloc; "{expr} ? {a} : {c}{a}")?,
-        6 => format!(in alloc; "{a} ? {expr} : {a}")?,
-        _ => format!(in alloc; "(1'h1) ? {a} : {expr}")?,
-    })
-}
+const EXPRESSIONS: [&str; 9] = [
+    "P",
+    "P O E",
+    "E O P",
+    "U(E)",
+    "(E) O UP",
+    "{P, E}",
+    "E ? P : UP",
+    "P ? E : P",
+    "(1'h1) ? P : E",
+];
 
-fn expression(alloc: Global, seed: &mut u64) -> Result<String, Fail> {
-    let mut expr = format!(in alloc; "{}", primary(seed))?;
-    for _ in 0..draw(seed) % 7 {
-        expr = wrapped(alloc, seed, &expr)?;
+const STATEMENTS: [&str; 7] = [
+    "q <= E;",
+    "begin S end",
+    "begin ; S {q, r} <= E; end",
+    "if (E) S",
+    "if (E) q[1] <= a; else S",
+    "if (a) begin S end else ;",
+    "if (a) if (E) ; else S",
+];
+
+const HEADERS: [&str; 5] = [
+    "",
+    "()",
+    "(a, \\q[0] , c)",
+    "(input wire [3:0] a, b, output reg q = 1'h1, r, output c)",
+    "(output [0:3] a, input b)",
+];
+
+const ITEMS: [&str; 1] = [
+    "reg [3:0] r, s = 4'h5; wire w, v = E; assign w = E, {v, w[1]} = E; nand g(w, E), (v, E, E); sub u(), v(a,,E), x(.p(E), .q()); always @(posedge c[0]) S initial begin r = 4'h2; s[1] = 1'h0; end initial w = 1'h1;",
+];
+
+const SOURCES: [&str; 1] = ["module mH; I endmodule\nmodule mH; I endmodule\n"];
+
+/// The forms of what an upper case letter stands for. Other bytes stand for themselves.
+fn forms(letter: char) -> &'static [&'static str] {
+    match letter {
+        'E' => &EXPRESSIONS,
+        'H' => &HEADERS,
+        'I' => &ITEMS,
+        'M' => &SOURCES,
+        'O' => &OPERATORS,
+        'P' => &PRIMARIES,
+        'S' => &STATEMENTS,
+        'U' => &PREFIXES,
+        _ => &[],
     }
-    Ok(expr)
 }
 
-fn statement(alloc: Global, seed: &mut u64) -> Result<String, Fail> {
-    let mut stmt = format!(in alloc; "q <= {};", expression(alloc, seed)?)?;
-    for _ in 0..draw(seed) % 5 {
-        let form = draw(seed) % 6;
-        let e = expression(alloc, seed)?;
-        stmt = match form {
-            0 => format!(in alloc; "begin {stmt} end")?,
-            1 => format!(in alloc; "begin ; {stmt} {{q, r}} <= {e}; end")?,
-            2 => format!(in alloc; "if ({e}) {stmt}")?,
-            3 => format!(in alloc; "if ({e}) q[1] <= a; else {stmt}")?,
-            4 => format!(in alloc; "if (a) begin {stmt} end else ;")?,
-            _ => format!(in alloc; "if (a) if ({e}) ; else {stmt}")?,
-        };
-    }
-    Ok(stmt)
-}
-
-fn header(seed: &mut u64) -> &'static str {
-    match draw(seed) % 5 {
-        0 => "",
-        1 => "()",
-        2 => "(a, \\q[0] , c)",
-        3 => "(input wire [3:0] a, b, output reg q = 1'h1, r, output c)",
-        _ => "(output [0:3] a, input b)",
+/// One of some forms, or the first.
+fn chosen(forms: &'static [&'static str], seed: &mut u64, first: bool) -> &'static str {
+    let drawn = draw(seed) as usize % forms.len().max(1);
+    let place = if first { 0 } else { drawn };
+    match forms.get(place) {
+        Some(form) => form,
+        None => "",
     }
 }
 
-fn items(alloc: Global, seed: &mut u64) -> Result<String, Fail> {
-    let a = expression(alloc, seed)?;
-    let b = expression(alloc, seed)?;
-    let c = expression(alloc, seed)?;
-    let d = statement(alloc, seed)?;
-    Ok(format!(in alloc;
-        "reg [3:0] r, s = 4'h5; wire w, v = {a}; assign w = {b}, {{v, w[1]}} = {c}; nand g(w, {a}), (v, {b}, {c}); sub u(), v(a,,{c}), x(.p({a}), .q()); always @(posedge c[0]) {d} initial begin r = 4'h2; s[1] = 1'h0; end initial w = 1'h1;"
-    )?)
+/// Writes a form of what a letter stands for, or what stands for itself.
+fn put_form(
+    text: &mut String,
+    seed: &mut u64,
+    letter: char,
+    first: bool,
+) -> Result<(), AllocError> {
+    let forms = forms(letter);
+    if forms.is_empty() {
+        return text.push(letter);
+    }
+    text.push_str(chosen(forms, seed, first))
 }
 
-fn module(alloc: Global, seed: &mut u64) -> Result<String, Fail> {
-    let header = header(seed);
-    let items = items(alloc, seed)?;
-    Ok(format!(in alloc; "module m{header}; {items} endmodule\n")?)
+/// A text with a form in the place of each letter that stands for others.
+fn expanded(alloc: Global, text: &str, seed: &mut u64, first: bool) -> Result<String, AllocError> {
+    let mut forms = String::new(alloc);
+    for letter in text.chars() {
+        put_form(&mut forms, seed, letter, first)?;
+    }
+    Ok(forms)
+}
+
+/// A drawn text, of forms seven deep and then of first forms, which end within three.
+fn drawn(alloc: Global, mut seed: u64) -> Result<String, AllocError> {
+    let mut text = String::new(alloc);
+    text.push('M')?;
+    for turn in 0..10 {
+        text = expanded(alloc, &text, &mut seed, turn > 6)?;
+    }
+    Ok(text)
 }
 
 /// Whether a tree that is printed and read again is the same.
@@ -140,10 +136,8 @@ fn comes_back(alloc: Global, text: &str) -> Result<bool, Fail> {
 
 /// Whether the text of a seed comes back.
 fn seed_comes_back(alloc: Global, seed: u64) -> Result<bool, Fail> {
-    let mut drawn = seed;
-    let one = module(alloc, &mut drawn)?;
-    let other = module(alloc, &mut drawn)?;
-    comes_back(alloc, &joined(alloc, &[&one, &other])?)
+    let text = drawn(alloc, seed)?;
+    comes_back(alloc, &text)
 }
 
 /// The first of some seeds whose text doesn't come back.
