@@ -1,11 +1,18 @@
 //! Runs the proved libraries on the files of its folder, so that a script can time them. It is no part of EQY.
 //!
 //! With the word `tokens`, `tree` or `print` it reads `netlist.v` and cuts it into tokens, or reads its tree as well, or
-//! prints that too; with `check` it checks `log.lrat` against `formula.cnf`. Without a word it does all four. Each puts a
-//! line with a count. The status is 0 where all could be done, and the log ends with the empty clause.
+//! prints that too; with `check` it checks `log.lrat` against `formula.cnf`; with `config` it reads `job.eqy`; with `graph` it makes
+//! a graph of a million nodes, and with `formula` a formula of a million clauses. Without a word it does all seven, with a
+//! small graph and a small formula.
+//! Each puts a line with a count. The status is 0 where all could be done, and the log ends with the empty clause.
+//!
+//! - `graph`: what is made without a file.
 #![tactic(auto)]
 
+mod graph;
+
 use eq_base::{Bytes, Memory};
+use eq_config::read_config;
 use eq_io::{DirStore, Got, OutSink, Sink, Store};
 use eq_proof::{check, read_dimacs, read_lrat};
 use eq_vlex::{Tokens, tokens};
@@ -17,14 +24,24 @@ use std::process::ExitCode;
 /// The most bytes of a file, and so the most tokens and clauses.
 const MOST: u64 = 67_108_864;
 
-/// Which of the four is to be done.
+/// Which of the seven is to be done.
 #[derive(Clone, Copy, PartialEq, Eq)]
 enum Work {
     Tokens,
     Tree,
     Print,
     Check,
+    Config,
+    Graph,
+    Formula,
     All,
+}
+
+/// How much is made where no file says it: a hundred nodes and 37 clauses, or a million of each.
+#[derive(Clone, Copy)]
+enum Extent {
+    Few,
+    Million,
 }
 
 /// The work that the first word names.
@@ -43,6 +60,9 @@ fn named(word: &[u8; 8]) -> Work {
         b"tree\0\0\0\0" => Work::Tree,
         b"print\0\0\0" => Work::Print,
         b"check\0\0\0" => Work::Check,
+        b"config\0\0" => Work::Config,
+        b"graph\0\0\0" => Work::Graph,
+        b"formula\0" => Work::Formula,
         _ => Work::All,
     }
 }
@@ -97,6 +117,24 @@ fn refuted(alloc: Global, formula: &[u8], log: &[u8]) -> Option<u64> {
     }
 }
 
+/// How many strategies a configuration has.
+fn strategies(alloc: Global, text: &[u8]) -> Option<u64> {
+    if text.len() as u64 > MOST {
+        return None;
+    }
+    match read_config(alloc, text) {
+        Ok(config) => Some(config.strategies.len() as u64),
+        Err(_) => None,
+    }
+}
+
+/// What is counted of a log and its formula.
+fn of_log<S: Store>(alloc: Global, store: &mut S) -> Option<u64> {
+    let formula = held(alloc, store, "formula.cnf")?;
+    let log = held(alloc, store, "log.lrat")?;
+    refuted(alloc, formula.as_slice(), log.as_slice())
+}
+
 /// What is counted of a netlist's text.
 fn of_netlist(alloc: Global, work: Work, text: &[u8]) -> Option<u64> {
     match work {
@@ -106,15 +144,33 @@ fn of_netlist(alloc: Global, work: Work, text: &[u8]) -> Option<u64> {
     }
 }
 
-/// What is counted in the files of the folder.
-fn count<S: Store>(alloc: Global, store: &mut S, work: Work) -> Option<u64> {
-    if work == Work::Check {
-        let formula = held(alloc, store, "formula.cnf")?;
-        let log = held(alloc, store, "log.lrat")?;
-        return refuted(alloc, formula.as_slice(), log.as_slice());
+/// What is counted of the configuration, or of the netlist.
+fn of_text<S: Store>(alloc: Global, store: &mut S, work: Work) -> Option<u64> {
+    if work == Work::Config {
+        let text = held(alloc, store, "job.eqy")?;
+        return strategies(alloc, text.as_slice());
     }
     let text = held(alloc, store, "netlist.v")?;
     of_netlist(alloc, work, text.as_slice())
+}
+
+/// What is counted in what is made without a file.
+fn of_graph(alloc: Global, work: Work, extent: Extent) -> Option<u64> {
+    match (work, extent) {
+        (Work::Graph, Extent::Few) => graph::nodes(alloc, 98),
+        (Work::Graph, Extent::Million) => graph::nodes(alloc, 999_998),
+        (_, Extent::Few) => graph::clauses(alloc, 4, 1),
+        (_, Extent::Million) => graph::clauses(alloc, 4_534, 62),
+    }
+}
+
+/// What a work counts.
+fn count<S: Store>(alloc: Global, store: &mut S, work: Work, extent: Extent) -> Option<u64> {
+    match work {
+        Work::Graph | Work::Formula => of_graph(alloc, work, extent),
+        Work::Check => of_log(alloc, store),
+        _ => of_text(alloc, store, work),
+    }
 }
 
 /// The line of a count.
@@ -128,9 +184,10 @@ fn done<S: Store, O: Sink>(
     store: &mut S,
     out: &mut O,
     work: Work,
+    extent: Extent,
     name: &str,
 ) -> bool {
-    let Some(count) = count(alloc, store, work) else {
+    let Some(count) = count(alloc, store, work, extent) else {
         return false;
     };
     match line(alloc, name, count) {
@@ -146,9 +203,17 @@ fn measure<S: Store, O: Sink>(alloc: Global, store: &mut S, out: &mut O, work: W
         (Work::Tree, "modules"),
         (Work::Print, "bytes"),
         (Work::Check, "steps"),
+        (Work::Config, "strategies"),
+        (Work::Graph, "nodes"),
+        (Work::Formula, "clauses"),
     ];
+    let extent = if work == Work::All {
+        Extent::Few
+    } else {
+        Extent::Million
+    };
     for (one, name) in &works {
-        if (work == Work::All || work == *one) && !done(alloc, store, out, *one, name) {
+        if (work == Work::All || work == *one) && !done(alloc, store, out, *one, extent, name) {
             return false;
         }
     }
