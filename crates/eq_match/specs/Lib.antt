@@ -1,0 +1,11 @@
+pub mod Classes
+pub mod Divided
+pub mod Fitting
+pub mod Groups
+pub mod Leaders
+pub mod Matched
+pub mod NetPairs
+pub mod Pairs
+pub mod Samples
+pub mod Seen
+pub mod inner
