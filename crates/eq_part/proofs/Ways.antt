@@ -1,0 +1,68 @@
+-- Chains of edges, and tables of reads.
+use Rattle.std.proofs.Common.{◌≡◌, ◌≢◌, ℕ, zero, suc, ◌<◌, ◌⊎◌, List, [], ◌∷◌, cond, slice_index_or, All, refl, arith, sym, ap, subst, ◌∙◌, inl, inr}
+use Rattle.std.proofs.lemmas.Bool.{cases_lt}
+use Rattle.std.proofs.lemmas.Bool.Decides.{eqb_tells}
+use Rattle.std.proofs.lemmas.List.Elements.{All-head, All-tail}
+use Rattle.eq_net.specs.Meaning.{table}
+use Rattle.eq_net.specs.Net.{Parts, word_at}
+use Rattle.eq_net.specs.Tree.{Tree}
+use Rattle.eq_match.specs.declared.types.Pair.{Pair}
+use Rattle.eq_match.specs.Matched.{gold_bit}
+use Rattle.eq_part.specs.declared.reached.Edge.{Edge}
+use Rattle.eq_part.specs.inner.Graph.{Chain, Joins}
+
+-- some chain leads from a to b
+abbrev pub Way : List Edge → ℕ → ℕ → Type 0
+Way edges a b = (n : ℕ) × Chain edges n a b
+
+module _ (edges : List Edge) where
+  pub way_none : (a : ℕ) → Way edges a a
+  way_none a = (0, refl)
+
+  way_more : (a b c : ℕ) → Way edges a b → Joins edges b c → Way edges a c
+  way_more a b c w j = (suc w.0, (b, w.1, j))
+
+  pub way_one : (a b : ℕ) → Joins edges a b → Way edges a b
+  way_one a b j = way_more a a b (way_none a) j
+
+  chain_then : (n a b c : ℕ) → Way edges a b → Chain edges n b c → Way edges a c
+  chain_then zero a b c w is = subst (λ (x : ℕ). Way edges a x) is w
+  chain_then (suc n) a b c w (d, chain, j) = way_more a d c (chain_then n a b d w chain) j
+
+  pub way_then : (a b c : ℕ) → Way edges a b → Way edges b c → Way edges a c
+  way_then a b c w v = chain_then v.0 a b c w v.1
+
+  pub way_from : (a b c : ℕ) → Joins edges a b → Way edges b c → Way edges a c
+  way_from a b c j w = way_then a b c (way_one a b j) w
+
+-- a word's entry in a table is what its tree makes of the entries before it
+pub table_word : (f : (ℕ → ℕ → List ℕ) → Tree → ℕ → List ℕ) (words : List Tree) (k w j : ℕ) → w < k →
+    table {A = List ℕ} [] f words k w j ≡ f (table {A = List ℕ} [] f words w) (word_at words w) j
+table_word f words zero w j lt = absurd (omega arith)
+table_word f words (suc k) w j lt = elim (eqb_tells w k) [
+  | inl same ↦ ap (λ t. cond t (f (table {A = List ℕ} [] f words k) (word_at words k) j) (table {A = List ℕ} [] f words k w j)) same.0
+      ∙ ap (λ (v : ℕ). f (table {A = List ℕ} [] f words v) (word_at words v) j) (sym same.1)
+  | inr other ↦ (let ne = other.1 in ap (λ t. cond t (f (table {A = List ℕ} [] f words k) (word_at words k) j) (table {A = List ℕ} [] f words k w j)) other.0
+      ∙ table_word f words k w j (omega arith))
+]
+
+-- what holds of all and of what stands where there is none holds at each place
+pub all_at : {A : Type 0} (P : A → Type 0) (xs : List A) (d : A) → All P xs → P d → (k : ℕ) → P (slice_index_or xs k d)
+all_at P [] d all at k = at
+all_at P (x ∷ xs) d all at zero = All-head P x xs all
+all_at P (x ∷ xs) d all at (suc k) = all_at P xs d (All-tail P x xs all) at k
+
+-- a bit is in one of the first k pairs, or in none of them
+pub find_pair : (gold : Parts) (pairs : List Pair) (b k : ℕ) →
+    ((i : ℕ) × (i < k) × (gold_bit gold pairs i ≡ b)) ⊎ ((i : ℕ) → i < k → gold_bit gold pairs i ≢ b)
+find_pair gold pairs b zero = inr (λ i lt is. absurd (omega arith))
+find_pair gold pairs b (suc k) = elim (find_pair gold pairs b k) [
+  | inl found ↦ (let lt = found.1 in inl (found.0, omega arith, found.2))
+  | inr none ↦ elim (eqb_tells (gold_bit gold pairs k) b) [
+    | inl same ↦ inl (k, omega arith, same.1)
+    | inr other ↦ inr (λ i lt is. elim (cases_lt i k) [
+      | inl less ↦ none i less is
+      | inr more ↦ (let at : i ≡ k = omega arith in other.1 (subst (λ (j : ℕ). gold_bit gold pairs j ≡ b) at is))
+    ])
+  ]
+]
