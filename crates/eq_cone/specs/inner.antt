@@ -1,0 +1,9 @@
+pub mod Cones
+pub mod Copying
+pub mod Marks
+pub mod Outputs
+pub mod Parted
+pub mod Roots
+pub mod Sides
+pub mod Steps
+pub mod Underway
