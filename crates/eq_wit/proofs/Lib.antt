@@ -1,0 +1,14 @@
+pub mod Counts
+pub mod Decoded
+pub mod Decoding
+pub mod Forms
+pub mod Lists
+pub mod Lrat
+pub mod OneEvidence
+pub mod OneFault
+pub mod Outcomes
+pub mod Plain
+pub mod Sizes
+pub mod Whole
+pub mod Words
+pub mod Written

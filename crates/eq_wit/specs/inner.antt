@@ -1,0 +1,2 @@
+pub mod EvidenceProp
+pub mod Tries
