@@ -19,3 +19,4 @@ pub mod Ports
 pub mod Answers
 pub mod Depending
 pub mod samples
+pub mod inner
