@@ -1,5 +1,5 @@
 -- A netlist of one word, in which one shift stands in another. This project's own.
-use Rattle.std.specs.Prelude.{ℕ, zero, suc, ◌+◌, ◌-◌, ◌*◌, List, [], ◌∷◌, ◌++◌, Bool, true, false, nat_lt, None, if◌then◌else◌}
+use Rattle.std.specs.Prelude.{ℕ, zero, suc, ◌-◌, ◌*◌, List, [], ◌∷◌, ◌++◌, Bool, true, false, nat_lt, None, if◌then◌else◌}
 use Rattle.eq_names.specs.declared.BitName.{BitName}
 use Rattle.eq_net.specs.declared.types.NetInfo.{NetInfo}
 use Rattle.eq_net.specs.declared.types.Dir.{Dir}

@@ -103,7 +103,7 @@ fn named(alloc: Global, name: &[u8]) -> Result<Name, Memory>
     }
 }
 
-fn ranged(alloc: Global, name: &[u8], width: u32, dir: Dir) -> Result<NetInfo, Memory>
+pub fn ranged(alloc: Global, name: &[u8], width: u32, dir: Dir) -> Result<NetInfo, Memory>
     ensures { IfOk result (λ net. net ≡ ranged_of name.now width dir) }
 {
     Ok(NetInfo {

@@ -1,4 +1,5 @@
 pub mod Counter
 pub mod Forms
 pub mod Operators
+pub mod Ripple
 pub mod Steps

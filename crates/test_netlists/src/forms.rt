@@ -1,4 +1,4 @@
-//! A netlist of all that isn't an operator of two operands, at widths of 1 to 8 bits.
+//! A netlist of all that isn't an operator of two operands, at widths of 1 to 65 bits.
 
 ghost use Rattle.std.specs.Prelude.{◌≡◌, ◌+◌, ◌++◌, ◌≤◌, [], ◌∷◌, IfOk, OnOk, map, true};
 ghost use Rattle.eq_net.specs.Tree.{choice, empty, extended, joined, negated, opposite, pick, read, tree_of, trees_of};
@@ -43,7 +43,7 @@ fn chosen(alloc: Global, width: u32) -> Result<Word, Fail>
 }
 
 fn extension(alloc: Global, width: u32) -> Result<Word, Fail>
-    requires { width ≤ 8 }
+    requires { width ≤ 65 }
     ensures { IfOk result (λ word. tree_of word ≡ extended (left width) (width + 2)) }
 {
     Ok(Word::Extend(boxed(alloc, 0, width)?, width + 2))
@@ -82,7 +82,7 @@ fn pick_of(alloc: Global, width: u32) -> Result<Word, Fail>
 }
 
 fn wide(alloc: Global, width: u32) -> Result<Words, Fail>
-    requires { width ≤ 8 }
+    requires { width ≤ 65 }
     ensures { IfOk result (λ words. trees_of words ≡ wide_of width) }
 {
     let mut words = Words::new(alloc);
@@ -112,7 +112,7 @@ fn push_reductions(alloc: Global, ops: &[RedOp], width: u32, out: &mut Words) ->
 }
 
 fn words(alloc: Global, width: u32) -> Result<Words, Fail>
-    requires { width ≤ 8 }
+    requires { width ≤ 65 }
     ensures { IfOk result (λ words. trees_of words ≡ words_of width) }
 {
     let mut words = wide(alloc, width)?;
@@ -131,7 +131,7 @@ fn words(alloc: Global, width: u32) -> Result<Words, Fail>
 
 /// How many bits a word has.
 pub fn size(width: u32, word: u32) -> u32
-    requires { width ≤ 8 }
+    requires { width ≤ 65 }
     ensures { result ≡ size_of width word }
 {
     if word < 3 {
@@ -148,7 +148,7 @@ pub fn size(width: u32, word: u32) -> u32
 }
 
 fn drivers(alloc: Global, width: u32) -> Result<Drivers, Fail>
-    requires { width ≤ 8 }
+    requires { width ≤ 65 }
     ensures { IfOk result (λ drivers. drivers ≡ drivers_of width 13) }
 {
     let mut drivers = Drivers::new(alloc);
@@ -160,7 +160,7 @@ fn drivers(alloc: Global, width: u32) -> Result<Drivers, Fail>
 }
 
 fn nets(alloc: Global, width: u32) -> Result<NetInfos, Fail>
-    requires { width ≤ 8 }
+    requires { width ≤ 65 }
     ensures { IfOk result (λ nets. nets ≡ nets_of width) }
 {
     let mut nets = NetInfos::new(alloc);
@@ -178,7 +178,7 @@ fn ports(alloc: Global) -> Result<NetNumbers, Fail>
 }
 
 fn netlist(alloc: Global, width: u32) -> Result<Net, Fail>
-    requires small { width ≤ 8 }
+    requires small { width ≤ 65 }
     requires good { is_good width ≡ true }
 {
     test_of_nets();
@@ -196,12 +196,14 @@ fn netlist(alloc: Global, width: u32) -> Result<Net, Fail>
     })
 }
 
-/// The netlist at one of the widths 1, 2, 3 and 8.
+/// The netlist at one of the widths 1, 2, 3, 8, 64 and 65.
 pub fn forms_at(alloc: Global, width: u32) -> Result<Net, Fail> {
     match width {
         1 => netlist(alloc, 1),
         2 => netlist(alloc, 2),
         3 => netlist(alloc, 3),
-        _ => netlist(alloc, 8),
+        8 => netlist(alloc, 8),
+        64 => netlist(alloc, 64),
+        _ => netlist(alloc, 65),
     }
 }

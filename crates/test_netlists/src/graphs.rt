@@ -193,7 +193,14 @@ fn a_graph_is_no_larger_than_its_netlist_costs(rt: HostRuntime) -> Result<(), Fa
 
 /// Widths, and what the netlist of all other words costs at each: 2, a node for each of its 8 w + 16 bits, and for the words
 /// w + 6 w + 8 + w + 16 w + 4.
-const OTHER_COSTS: [(u32, usize); 4] = [(1, 62), (2, 94), (3, 126), (8, 286)];
+const OTHER_COSTS: [(u32, usize); 6] = [
+    (1, 62),
+    (2, 94),
+    (3, 126),
+    (8, 286),
+    (64, 2_078),
+    (65, 2_110),
+];
 
 fn other_graph(alloc: Global, width: u32) -> Result<Graph, Fail> {
     let net = forms_at(alloc, width)?;

@@ -4,10 +4,12 @@
 //! - `builder`: what the builder answers, question by question.
 //! - `clocked`: the graph of a counter's netlist, and names of bits.
 //! - `counting`: a counter's graph over three cycles.
+//! - `drawn`: graphs against steps on drawn operands of 64 bits and more.
 //! - `form_rows`, `forms`: all other words in a step and in a graph, against numbers.
 //! - `graphs`: the graph of a netlist of every operator, and how large graphs are.
 //! - `net`: names that tools make, and netlists across threads.
 //! - `operator_rows`, `operators`: each operator of two operands in a step, at each width.
+//! - `ripple`: a sum whose carries are a net of their own.
 //! - `steps`: a counter, step by step.
 #![tactic(auto)]
 
@@ -20,6 +22,8 @@ mod clocked;
 #[cfg(test)]
 mod counting;
 #[cfg(test)]
+mod drawn;
+#[cfg(test)]
 mod form_rows;
 #[cfg(test)]
 mod forms;
@@ -31,5 +35,7 @@ mod net;
 mod operator_rows;
 #[cfg(test)]
 mod operators;
+#[cfg(test)]
+mod ripple;
 #[cfg(test)]
 mod steps;

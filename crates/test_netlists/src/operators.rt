@@ -39,7 +39,7 @@ pub fn binary(alloc: Global, op: WordOp, left: Word, right: Word) -> Result<Word
     Ok(Word::Binary(op, left, right))
 }
 
-fn operation(alloc: Global, op: WordOp, width: u32) -> Result<Word, Fail>
+pub fn operation(alloc: Global, op: WordOp, width: u32) -> Result<Word, Fail>
     ensures { IfOk result (λ word. tree_of word ≡ operation_of width op) }
 {
     let left = reading(alloc, 0, width)?;

@@ -1,0 +1,6 @@
+pub mod Chains
+pub mod Crossing
+pub mod Designs
+pub mod Ports
+pub mod Work
+pub mod inner
