@@ -47,7 +47,8 @@ fn negated(builder: &mut Builder, node: Node) -> Result<u32, Memory>
     requires operands { IsNode (length builder.old) (length builder.old) node }
     requires room { length builder.old + 2 < 2 ^ 32 }
     ensures grown { OnOk result (Grown 2 builder.old builder.new) }
-    ensures gives { IfOk result (λ m. Gives builder.new m (λ x. not (value_in node x)) (has_in node)) }
+    ensures gives { IfOk result
+        (λ m. Gives builder.new m (λ x. not (value_in node x)) (has_in node)) }
 {
     let inner = gate(builder, node)?;
     gate(builder, Node::Not(inner))
@@ -58,7 +59,8 @@ fn negated_and(builder: &mut Builder, x: u32, y: u32) -> Result<u32, Memory>
     requires y { y < length builder.old }
     requires room { length builder.old + 2 < 2 ^ 32 }
     ensures grown { OnOk result (Grown 2 builder.old builder.new) }
-    ensures gives { IfOk result (λ m. Gives builder.new m (λ v. not (v x && v y)) (λ d. d x && d y)) }
+    ensures gives { IfOk result
+        (λ m. Gives builder.new m (λ v. not (v x && v y)) (λ d. d x && d y)) }
 {
     negated(builder, Node::And(x, y))
 }
@@ -131,7 +133,9 @@ pub fn step(kind: Kind, builder: &mut Builder, x: u32, y: u32, z: u32) -> Result
     requires room { length builder.old + 4 < 2 ^ 32 }
     ensures few { OnOk result (length builder.new ≤ length builder.old + 4) }
     ensures grown { OnOk result (Grown (step_cost kind) builder.old builder.new) }
-    ensures gives { IfOk result (λ m. Gives builder.new m (λ v. step_value kind (v x) (v y) (v z)) (λ d. step_has kind (d x) (d y) (d z))) }
+    ensures gives { IfOk result
+        (λ m. Gives builder.new m (λ v. step_value kind (v x) (v y) (v z))
+        (λ d. step_has kind (d x) (d y) (d z))) }
 {
     match kind {
         Kind::And => gate(builder, Node::And(x, y)),

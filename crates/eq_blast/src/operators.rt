@@ -30,10 +30,15 @@ pub fn operate(
     requires sizes { has_free_sizes op ≡ false → right - left ≡ length stack.old.items - right }
     requires there { AreThere builder.old stack.old.items }
     requires constants { HasConstants builder.old }
-    requires room { length builder.old + apply_cost op (right - left) (length stack.old.items - right) ≤ 2 ^ 21 }
-    ensures { OnOk result (Performs (apply_cost op (right - left) (length stack.old.items - right)) (result_size op (right - left)) left
-        (λ x. apply op (right - left) (length stack.old.items - right) (seen x stack.old.items left) (seen x stack.old.items right))
-        (λ d. needs op (right - left) (length stack.old.items - right) (seen d stack.old.items left) (seen d stack.old.items right))
+    requires room { length builder.old + apply_cost op (right - left)
+        (length stack.old.items - right) ≤ 2 ^ 21 }
+    ensures { OnOk result
+        (Performs (apply_cost op (right - left) (length stack.old.items - right))
+        (result_size op (right - left)) left
+        (λ x. apply op (right - left) (length stack.old.items - right)
+        (seen x stack.old.items left) (seen x stack.old.items right))
+        (λ d. needs op (right - left) (length stack.old.items - right)
+        (seen d stack.old.items left) (seen d stack.old.items right))
         builder.old builder.new stack.old.items stack.new.items) }
 {
     shifts_by_stages();

@@ -29,8 +29,11 @@ pub fn fold(
     requires room { length builder.old + 4 * count < 2 ^ 32 }
     ensures grown { OnOk result (Grown (count * step_cost kind) builder.old builder.new) }
     ensures gives { IfOk result (λ m. Gives builder.new m
-        (λ x. folded kind (x start) count (seen x stack.now.items left) (seen x stack.now.items right))
-        (λ d. d start && (all_ones count (seen d stack.now.items left) && all_ones count (seen d stack.now.items right)))) }
+        (λ x. folded kind (x start) count (seen x stack.now.items left)
+        (seen x stack.now.items right))
+        (λ d. d start &&
+        (all_ones count (seen d stack.now.items left) &&
+        all_ones count (seen d stack.now.items right)))) }
 {
     let mut value = start;
     for j in 0..count {
@@ -61,10 +64,13 @@ pub fn map(
     requires z { z < length builder.old }
     requires room { length builder.old + 4 * count < 2 ^ 32 }
     ensures grown { OnOk result (Grown (count * step_cost kind) builder.old builder.new) }
-    ensures written { OnOk result (Written (length stack.old.items) count stack.old.items stack.new.items) }
+    ensures written { OnOk result
+        (Written (length stack.old.items) count stack.old.items stack.new.items) }
     ensures spells { OnOk result (Spells builder.new stack.new.items (length stack.old.items) count
-        (λ x j. step_value kind (seen x stack.old.items left j) (seen x stack.old.items right j) (x z))
-        (λ d j. step_has kind (seen d stack.old.items left j) (seen d stack.old.items right j) (d z))) }
+        (λ x j. step_value kind (seen x stack.old.items left j) (seen x stack.old.items right j)
+        (x z))
+        (λ d j. step_has kind (seen d stack.old.items left j) (seen d stack.old.items right j)
+        (d z))) }
 {
     for j in 0..count {
         let x = node(stack, left + j);
@@ -90,10 +96,14 @@ pub fn ripple(
     requires start { start < length builder.old }
     requires room { length builder.old + 8 * count < 2 ^ 32 }
     ensures grown { OnOk result (Grown (count * 4) builder.old builder.new) }
-    ensures written { OnOk result (Written (length stack.old.items) count stack.old.items stack.new.items) }
+    ensures written { OnOk result
+        (Written (length stack.old.items) count stack.old.items stack.new.items) }
     ensures spells { OnOk result (Spells builder.new stack.new.items (length stack.old.items) count
-        (λ x j. differ (differ (seen x stack.old.items left j) (seen x stack.old.items right j)) (carry_of (x start) (seen x stack.old.items left) (seen x stack.old.items right) j))
-        (λ d j. d start && (all_ones (suc j) (seen d stack.old.items left) && all_ones (suc j) (seen d stack.old.items right)))) }
+        (λ x j. differ (differ (seen x stack.old.items left j) (seen x stack.old.items right j))
+        (carry_of (x start) (seen x stack.old.items left) (seen x stack.old.items right) j))
+        (λ d j. d start &&
+        (all_ones (suc j) (seen d stack.old.items left) &&
+        all_ones (suc j) (seen d stack.old.items right)))) }
 {
     let mut carry = start;
     for j in 0..count {

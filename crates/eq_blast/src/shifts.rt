@@ -22,9 +22,12 @@ fn push_moved(
     by: usize,
 ) -> Result<(), Memory>
     requires { from + count ≤ length stack.old.items }
-    ensures written { OnOk result (Written (length stack.old.items) count stack.old.items stack.new.items) }
-    ensures put { OnOk result ((j : ℕ) → j < count → slice_index_or stack.new.items (length stack.old.items + j) 0 ≡
-        cond {A = ℕ} (takes up count by j) (slice_index_or stack.old.items (from + place up by j) 0) 0) }
+    ensures written { OnOk result
+        (Written (length stack.old.items) count stack.old.items stack.new.items) }
+    ensures put { OnOk result
+        ((j : ℕ) → j < count → slice_index_or stack.new.items (length stack.old.items + j) 0 ≡
+        cond {A = ℕ} (takes up count by j)
+        (slice_index_or stack.old.items (from + place up by j) 0) 0) }
 {
     if up {
         push_raised(stack, from, count, by)
@@ -47,9 +50,11 @@ fn stage(
     requires constants { HasConstants builder.old }
     requires bit { bit < length builder.old }
     requires room { length builder.old + 4 * (length stack.old.items - from) < 2 ^ 32 }
-    ensures { OnOk result (Performs (length stack.old.items - from) (length stack.old.items - from) from
+    ensures { OnOk result
+        (Performs (length stack.old.items - from) (length stack.old.items - from) from
         (λ x. staged up (length stack.old.items - from) by (x bit) (seen x stack.old.items from))
-        (λ d. staged_has up (length stack.old.items - from) by (d bit) (seen d stack.old.items from))
+        (λ d. staged_has up (length stack.old.items - from) by (d bit)
+        (seen d stack.old.items from))
         builder.old builder.new stack.old.items stack.new.items) }
 {
     let top = stack.len();
@@ -80,9 +85,14 @@ fn stages(
     requires there { AreThere builder.old stack.old.items }
     requires constants { HasConstants builder.old }
     requires room { length builder.old + (length stack.old.items - top) * (top - right) ≤ 2 ^ 21 }
-    ensures { OnOk result (Performs ((top - right) * (length stack.old.items - top)) (length stack.old.items - top) top
-        (λ x. moved up (length stack.old.items - top) (min (length stack.old.items - top) (number (top - right) (seen x stack.old.items right))) (seen x stack.old.items top))
-        (λ d i. own up (length stack.old.items - top) (seen d stack.old.items top) i && all_ones (top - right) (seen d stack.old.items right))
+    ensures { OnOk result
+        (Performs ((top - right) * (length stack.old.items - top))
+        (length stack.old.items - top) top
+        (λ x. moved up (length stack.old.items - top)
+        (min (length stack.old.items - top) (number (top - right) (seen x stack.old.items right)))
+        (seen x stack.old.items top))
+        (λ d i. own up (length stack.old.items - top) (seen d stack.old.items top) i &&
+        all_ones (top - right) (seen d stack.old.items right))
         builder.old builder.new stack.old.items stack.new.items) }
 {
     shifts_by_stages();
@@ -108,10 +118,16 @@ pub fn shift(
     requires sizes { right ≤ length stack.old.items }
     requires there { AreThere builder.old stack.old.items }
     requires constants { HasConstants builder.old }
-    requires room { length builder.old + (right - left) * (length stack.old.items - right) ≤ 2 ^ 21 }
-    ensures { OnOk result (Performs ((right - left) * (length stack.old.items - right)) (right - left) left
-        (λ x. moved up (right - left) (min (right - left) (number (length stack.old.items - right) (seen x stack.old.items right))) (seen x stack.old.items left))
-        (λ d i. own up (right - left) (seen d stack.old.items left) i && all_ones (length stack.old.items - right) (seen d stack.old.items right))
+    requires room { length builder.old + (right - left) * (length stack.old.items - right) ≤
+        2 ^ 21 }
+    ensures { OnOk result
+        (Performs ((right - left) * (length stack.old.items - right)) (right - left) left
+        (λ x. moved up (right - left)
+        (min (right - left)
+        (number (length stack.old.items - right) (seen x stack.old.items right)))
+        (seen x stack.old.items left))
+        (λ d i. own up (right - left) (seen d stack.old.items left) i &&
+        all_ones (length stack.old.items - right) (seen d stack.old.items right))
         builder.old builder.new stack.old.items stack.new.items) }
 {
     operations_see_their_bits();

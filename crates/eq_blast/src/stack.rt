@@ -18,8 +18,10 @@ fn put(stack: &mut Vec<u32>, at: usize, node: u32)
     requires { at < length stack.old.items }
     ensures size { length stack.new.items ≡ length stack.old.items }
     ensures there { slice_index_or stack.new.items at 0 ≡ node }
-    ensures below { (k : ℕ) → k < at → slice_index_or stack.new.items k 0 ≡ slice_index_or stack.old.items k 0 }
-    ensures above { (k : ℕ) → at < k → slice_index_or stack.new.items k 0 ≡ slice_index_or stack.old.items k 0 }
+    ensures below { (k : ℕ) → k < at → slice_index_or stack.new.items k 0 ≡
+        slice_index_or stack.old.items k 0 }
+    ensures above { (k : ℕ) → at < k → slice_index_or stack.new.items k 0 ≡
+        slice_index_or stack.old.items k 0 }
 {
     stack[at] = node;
 }
@@ -28,7 +30,9 @@ fn put(stack: &mut Vec<u32>, at: usize, node: u32)
 pub fn push(stack: &mut Vec<u32>, node: u32) -> Result<(), Memory>
     ensures size { OnOk result (length stack.new.items ≡ length stack.old.items + 1) }
     ensures there { OnOk result (slice_index_or stack.new.items (length stack.old.items) 0 ≡ node) }
-    ensures below { OnOk result ((k : ℕ) → k < length stack.old.items → slice_index_or stack.new.items k 0 ≡ slice_index_or stack.old.items k 0) }
+    ensures below { OnOk result
+        ((k : ℕ) → k < length stack.old.items → slice_index_or stack.new.items k 0 ≡
+        slice_index_or stack.old.items k 0) }
 {
     stack.push(node)?;
     Ok(())
@@ -38,7 +42,8 @@ pub fn push(stack: &mut Vec<u32>, node: u32) -> Result<(), Memory>
 fn cut(stack: &mut Vec<u32>, to: usize)
     requires { to ≤ length stack.old.items }
     ensures size { length stack.new.items ≡ to }
-    ensures kept { (k : ℕ) → k < to → slice_index_or stack.new.items k 0 ≡ slice_index_or stack.old.items k 0 }
+    ensures kept { (k : ℕ) → k < to → slice_index_or stack.new.items k 0 ≡
+        slice_index_or stack.old.items k 0 }
 {
     stack.truncate(to);
 }
@@ -48,7 +53,8 @@ pub fn move_down(stack: &mut Vec<u32>, to: usize, from: usize, width: usize)
     requires order { to ≤ from }
     requires there { from + width ≤ length stack.old.items }
     ensures written { Written to width stack.old.items stack.new.items }
-    ensures moved { (j : ℕ) → j < width → slice_index_or stack.new.items (to + j) 0 ≡ slice_index_or stack.old.items (from + j) 0 }
+    ensures moved { (j : ℕ) → j < width → slice_index_or stack.new.items (to + j) 0 ≡
+        slice_index_or stack.old.items (from + j) 0 }
 {
     for j in 0..width {
         let moved = node(stack, from + j);
@@ -61,7 +67,8 @@ pub fn move_down(stack: &mut Vec<u32>, to: usize, from: usize, width: usize)
 pub fn leave_one(stack: &mut Vec<u32>, from: usize, node: u32) -> Result<(), Memory>
     requires { from ≤ length stack.old.items }
     ensures written { OnOk result (Written from 1 stack.old.items stack.new.items) }
-    ensures put { OnOk result ((j : ℕ) → j < 1 → slice_index_or stack.new.items (from + j) 0 ≡ node) }
+    ensures put { OnOk result
+        ((j : ℕ) → j < 1 → slice_index_or stack.new.items (from + j) 0 ≡ node) }
 {
     cut(stack, from);
     push(stack, node)
@@ -69,8 +76,11 @@ pub fn leave_one(stack: &mut Vec<u32>, from: usize, node: u32) -> Result<(), Mem
 
 /// Puts `count` times the node 0 on top.
 pub fn push_zeros(stack: &mut Vec<u32>, count: usize) -> Result<(), Memory>
-    ensures written { OnOk result (Written (length stack.old.items) count stack.old.items stack.new.items) }
-    ensures put { OnOk result ((j : ℕ) → length stack.old.items ≤ j → j < length stack.new.items → slice_index_or stack.new.items j 0 ≡ 0) }
+    ensures written { OnOk result
+        (Written (length stack.old.items) count stack.old.items stack.new.items) }
+    ensures put { OnOk result
+        ((j : ℕ) → length stack.old.items ≤ j → j < length stack.new.items →
+        slice_index_or stack.new.items j 0 ≡ 0) }
 {
     for _ in 0..count {
         push(stack, 0)?;
@@ -81,8 +91,10 @@ pub fn push_zeros(stack: &mut Vec<u32>, count: usize) -> Result<(), Memory>
 /// Puts on top the `count` nodes from a place on, as many places up as `by`, with the node 0 below them.
 pub fn push_raised(stack: &mut Vec<u32>, from: usize, count: usize, by: usize) -> Result<(), Memory>
     requires { from + count ≤ length stack.old.items }
-    ensures written { OnOk result (Written (length stack.old.items) count stack.old.items stack.new.items) }
-    ensures put { OnOk result ((j : ℕ) → j < count → slice_index_or stack.new.items (length stack.old.items + j) 0 ≡
+    ensures written { OnOk result
+        (Written (length stack.old.items) count stack.old.items stack.new.items) }
+    ensures put { OnOk result
+        ((j : ℕ) → j < count → slice_index_or stack.new.items (length stack.old.items + j) 0 ≡
         cond {A = ℕ} (nat_le by j) (slice_index_or stack.old.items (from + (j - by)) 0) 0) }
 {
     for j in 0..count {
@@ -104,9 +116,12 @@ pub fn push_lowered(
     by: usize,
 ) -> Result<(), Memory>
     requires { from + count ≤ length stack.old.items }
-    ensures written { OnOk result (Written (length stack.old.items) count stack.old.items stack.new.items) }
-    ensures put { OnOk result ((j : ℕ) → j < count → slice_index_or stack.new.items (length stack.old.items + j) 0 ≡
-        cond {A = ℕ} (nat_lt j (count - by)) (slice_index_or stack.old.items (from + (by + j)) 0) 0) }
+    ensures written { OnOk result
+        (Written (length stack.old.items) count stack.old.items stack.new.items) }
+    ensures put { OnOk result
+        ((j : ℕ) → j < count → slice_index_or stack.new.items (length stack.old.items + j) 0 ≡
+        cond {A = ℕ} (nat_lt j (count - by))
+        (slice_index_or stack.old.items (from + (by + j)) 0) 0) }
 {
     for j in 0..count {
         let moved = if by < count - j {

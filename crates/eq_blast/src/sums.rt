@@ -30,8 +30,10 @@ pub fn combine(
     requires constants { HasConstants builder.old }
     requires room { length builder.old + 4 * (right - left) < 2 ^ 32 }
     ensures { OnOk result (Performs ((right - left) * step_cost kind) (right - left) left
-        (λ x j. step_value kind (seen x stack.old.items left j) (seen x stack.old.items right j) (x 0))
-        (λ d j. step_has kind (seen d stack.old.items left j) (seen d stack.old.items right j) (d 0))
+        (λ x j. step_value kind (seen x stack.old.items left j) (seen x stack.old.items right j)
+        (x 0))
+        (λ d j. step_has kind (seen d stack.old.items left j) (seen d stack.old.items right j)
+        (d 0))
         builder.old builder.new stack.old.items stack.new.items) }
 {
     let top = stack.len();
@@ -46,7 +48,8 @@ pub fn negate(builder: &mut Builder, stack: &mut Vec<u32>, from: usize) -> Resul
     requires there { AreThere builder.old stack.old.items }
     requires constants { HasConstants builder.old }
     requires room { length builder.old + 4 * (length stack.old.items - from) < 2 ^ 32 }
-    ensures { OnOk result (Performs (length stack.old.items - from) (length stack.old.items - from) from
+    ensures { OnOk result
+        (Performs (length stack.old.items - from) (length stack.old.items - from) from
         (λ x j. not (seen x stack.old.items from j)) (λ d j. seen d stack.old.items from j)
         builder.old builder.new stack.old.items stack.new.items) }
 {
@@ -69,8 +72,10 @@ pub fn sum(
     requires constants { HasConstants builder.old }
     requires room { length builder.old + 8 * (right - left) < 2 ^ 32 }
     ensures { OnOk result (Performs (5 * (right - left)) (right - left) left
-        (λ x. apply Add (right - left) (right - left) (seen x stack.old.items left) (seen x stack.old.items right))
-        (λ d. needs Add (right - left) (right - left) (seen d stack.old.items left) (seen d stack.old.items right))
+        (λ x. apply Add (right - left) (right - left) (seen x stack.old.items left)
+        (seen x stack.old.items right))
+        (λ d. needs Add (right - left) (right - left) (seen d stack.old.items left)
+        (seen d stack.old.items right))
         builder.old builder.new stack.old.items stack.new.items) }
 {
     sums_by_carries();
@@ -93,8 +98,10 @@ pub fn difference(
     requires constants { HasConstants builder.old }
     requires room { length builder.old + 16 * (right - left) < 2 ^ 32 }
     ensures { OnOk result (Performs (6 * (right - left)) (right - left) left
-        (λ x. apply Sub (right - left) (right - left) (seen x stack.old.items left) (seen x stack.old.items right))
-        (λ d. needs Sub (right - left) (right - left) (seen d stack.old.items left) (seen d stack.old.items right))
+        (λ x. apply Sub (right - left) (right - left) (seen x stack.old.items left)
+        (seen x stack.old.items right))
+        (λ d. needs Sub (right - left) (right - left) (seen d stack.old.items left)
+        (seen d stack.old.items right))
         builder.old builder.new stack.old.items stack.new.items) }
 {
     sums_by_carries();
@@ -113,7 +120,8 @@ pub fn oppose(builder: &mut Builder, stack: &mut Vec<u32>, from: usize) -> Resul
     requires there { AreThere builder.old stack.old.items }
     requires constants { HasConstants builder.old }
     requires room { length builder.old + 16 * (length stack.old.items - from) < 2 ^ 32 }
-    ensures { OnOk result (Performs (6 * (length stack.old.items - from)) (length stack.old.items - from) from
+    ensures { OnOk result
+        (Performs (6 * (length stack.old.items - from)) (length stack.old.items - from) from
         (λ x. negative (length stack.old.items - from) (seen x stack.old.items from))
         (λ d j. all_ones (suc j) (seen d stack.old.items from))
         builder.old builder.new stack.old.items stack.new.items) }

@@ -20,7 +20,8 @@ fn flipped(negate: bool, builder: &mut Builder, node: u32) -> Result<u32, Memory
     requires there { node < length builder.old }
     requires room { length builder.old + 4 < 2 ^ 32 }
     ensures grown { OnOk result (Grown (cond {A = ℕ} negate 1 0) builder.old builder.new) }
-    ensures gives { IfOk result (λ m. Gives builder.new m (λ x. differ negate (x node)) (λ d. d node)) }
+    ensures gives { IfOk result
+        (λ m. Gives builder.new m (λ x. differ negate (x node)) (λ d. d node)) }
 {
     if negate {
         step(Kind::Not, builder, node, node, node)
@@ -48,8 +49,12 @@ pub fn test(
     requires start { start < length builder.old }
     requires room { length builder.old + 4 * (count * step_cost kind + 1) + 4 * count < 2 ^ 32 }
     ensures { OnOk result (Performs (count * step_cost kind + cond {A = ℕ} negate 1 0) 1 to
-        (λ x. one_bit (differ negate (folded kind (x start) count (seen x stack.old.items left) (seen x stack.old.items right))))
-        (λ d. one_needs (d start && (all_ones count (seen d stack.old.items left) && all_ones count (seen d stack.old.items right))))
+        (λ x. one_bit
+        (differ negate
+        (folded kind (x start) count (seen x stack.old.items left) (seen x stack.old.items right))))
+        (λ d. one_needs
+        (d start && (all_ones count (seen d stack.old.items left) &&
+        all_ones count (seen d stack.old.items right))))
         builder.old builder.new stack.old.items stack.new.items) }
 {
     let value = fold(kind, builder, stack, left, right, count, start)?;
@@ -71,8 +76,13 @@ pub fn equality(
     requires constants { HasConstants builder.old }
     requires room { length builder.old + 16 * ((right - left) + 1) < 2 ^ 32 }
     ensures { OnOk result (Performs (3 * (right - left) + cond {A = ℕ} negate 1 0) 1 left
-        (λ x. one_bit (differ negate (number (right - left) (seen x stack.old.items left) == number (right - left) (seen x stack.old.items right))))
-        (λ d. one_needs (all_ones (right - left) (seen d stack.old.items left) && all_ones (right - left) (seen d stack.old.items right)))
+        (λ x. one_bit
+        (differ negate
+        (number (right - left) (seen x stack.old.items left) ==
+        number (right - left) (seen x stack.old.items right))))
+        (λ d. one_needs
+        (all_ones (right - left) (seen d stack.old.items left) &&
+        all_ones (right - left) (seen d stack.old.items right)))
         builder.old builder.new stack.old.items stack.new.items) }
 {
     order_from_the_lowest();
@@ -106,8 +116,13 @@ pub fn order(
     requires constants { HasConstants builder.old }
     requires room { length builder.old + 16 * (count + 1) < 2 ^ 32 }
     ensures { OnOk result (Performs (2 * count + cond {A = ℕ} negate 1 0) 1 to
-        (λ x. one_bit (differ negate (nat_lt (number count (seen x stack.old.items first)) (number count (seen x stack.old.items second)))))
-        (λ d. one_needs (all_ones count (seen d stack.old.items first) && all_ones count (seen d stack.old.items second)))
+        (λ x. one_bit
+        (differ negate
+        (nat_lt (number count (seen x stack.old.items first))
+        (number count (seen x stack.old.items second)))))
+        (λ d. one_needs
+        (all_ones count (seen d stack.old.items first) &&
+        all_ones count (seen d stack.old.items second)))
         builder.old builder.new stack.old.items stack.new.items) }
 {
     order_from_the_lowest();
@@ -131,7 +146,9 @@ fn some(builder: &mut Builder, stack: &Vec<u32>, from: usize, count: usize) -> R
     requires constants { HasConstants builder.old }
     requires room { length builder.old + 4 * count < 2 ^ 32 }
     ensures grown { OnOk result (Grown (4 * count) builder.old builder.new) }
-    ensures gives { IfOk result (λ m. Gives builder.new m (λ x. some_one count (seen x stack.now.items from)) (λ d. all_ones count (seen d stack.now.items from))) }
+    ensures gives { IfOk result
+        (λ m. Gives builder.new m (λ x. some_one count (seen x stack.now.items from))
+        (λ d. all_ones count (seen d stack.now.items from))) }
 {
     fold(Kind::Or, builder, stack, from, from, count, 0)
 }
@@ -148,10 +165,17 @@ pub fn logical(
     requires sizes { right ≤ length stack.old.items }
     requires there { AreThere builder.old stack.old.items }
     requires constants { HasConstants builder.old }
-    requires room { length builder.old + 8 * ((right - left) + (length stack.old.items - right)) + 8 < 2 ^ 32 }
-    ensures { OnOk result (Performs (4 * ((right - left) + (length stack.old.items - right)) + 4) 1 left
-        (λ x. one_bit (step_value kind (some_one (right - left) (seen x stack.old.items left)) (some_one (length stack.old.items - right) (seen x stack.old.items right)) (some_one (length stack.old.items - right) (seen x stack.old.items right))))
-        (λ d. one_needs (all_ones (right - left) (seen d stack.old.items left) && all_ones (length stack.old.items - right) (seen d stack.old.items right)))
+    requires room { length builder.old + 8 *
+        ((right - left) + (length stack.old.items - right)) + 8 < 2 ^ 32 }
+    ensures { OnOk result
+        (Performs (4 * ((right - left) + (length stack.old.items - right)) + 4) 1 left
+        (λ x. one_bit
+        (step_value kind (some_one (right - left) (seen x stack.old.items left))
+        (some_one (length stack.old.items - right) (seen x stack.old.items right))
+        (some_one (length stack.old.items - right) (seen x stack.old.items right))))
+        (λ d. one_needs
+        (all_ones (right - left) (seen d stack.old.items left) &&
+        all_ones (length stack.old.items - right) (seen d stack.old.items right)))
         builder.old builder.new stack.old.items stack.new.items) }
 {
     let x = some(builder, stack, left, right - left)?;
@@ -176,8 +200,10 @@ pub fn choose_one(
     requires constants { HasConstants builder.old }
     requires room { length builder.old + 8 * ((right - left) + (left - from)) < 2 ^ 32 }
     ensures { OnOk result (Performs (choose_cost (left - from) (right - left)) (right - left) from
-        (λ x. choose (left - from) (seen x stack.old.items from) (seen x stack.old.items left) (seen x stack.old.items right))
-        (λ d. choose_needs (left - from) (seen d stack.old.items from) (seen d stack.old.items left) (seen d stack.old.items right))
+        (λ x. choose (left - from) (seen x stack.old.items from) (seen x stack.old.items left)
+        (seen x stack.old.items right))
+        (λ d. choose_needs (left - from) (seen d stack.old.items from)
+        (seen d stack.old.items left) (seen d stack.old.items right))
         builder.old builder.new stack.old.items stack.new.items) }
 {
     let condition = some(builder, stack, from, left - from)?;
@@ -206,8 +232,10 @@ pub fn every(
     requires there { AreThere builder.old stack.old.items }
     requires constants { HasConstants builder.old }
     requires room { length builder.old + 32 * ((length stack.old.items - from) + 1) < 2 ^ 32 }
-    ensures { OnOk result (Performs ((length stack.old.items - from) + cond {A = ℕ} negate 1 0) 1 from
-        (λ x. one_bit (differ negate (all_ones (length stack.old.items - from) (seen x stack.old.items from))))
+    ensures { OnOk result
+        (Performs ((length stack.old.items - from) + cond {A = ℕ} negate 1 0) 1 from
+        (λ x. one_bit
+        (differ negate (all_ones (length stack.old.items - from) (seen x stack.old.items from))))
         (λ d. one_needs (all_ones (length stack.old.items - from) (seen d stack.old.items from)))
         builder.old builder.new stack.old.items stack.new.items) }
 {
@@ -236,8 +264,10 @@ pub fn any(
     requires there { AreThere builder.old stack.old.items }
     requires constants { HasConstants builder.old }
     requires room { length builder.old + 32 * ((length stack.old.items - from) + 1) < 2 ^ 32 }
-    ensures { OnOk result (Performs (4 * (length stack.old.items - from) + cond {A = ℕ} negate 1 0) 1 from
-        (λ x. one_bit (differ negate (some_one (length stack.old.items - from) (seen x stack.old.items from))))
+    ensures { OnOk result
+        (Performs (4 * (length stack.old.items - from) + cond {A = ℕ} negate 1 0) 1 from
+        (λ x. one_bit
+        (differ negate (some_one (length stack.old.items - from) (seen x stack.old.items from))))
         (λ d. one_needs (all_ones (length stack.old.items - from) (seen d stack.old.items from)))
         builder.old builder.new stack.old.items stack.new.items) }
 {
@@ -256,8 +286,10 @@ pub fn odd(
     requires there { AreThere builder.old stack.old.items }
     requires constants { HasConstants builder.old }
     requires room { length builder.old + 32 * ((length stack.old.items - from) + 1) < 2 ^ 32 }
-    ensures { OnOk result (Performs ((length stack.old.items - from) + cond {A = ℕ} negate 1 0) 1 from
-        (λ x. one_bit (differ negate (parity (length stack.old.items - from) (seen x stack.old.items from))))
+    ensures { OnOk result
+        (Performs ((length stack.old.items - from) + cond {A = ℕ} negate 1 0) 1 from
+        (λ x. one_bit
+        (differ negate (parity (length stack.old.items - from) (seen x stack.old.items from))))
         (λ d. one_needs (all_ones (length stack.old.items - from) (seen d stack.old.items from)))
         builder.old builder.new stack.old.items stack.new.items) }
 {

@@ -56,8 +56,10 @@ fn constants(alloc: Global) -> Result<Builder, Memory>
 fn add_bits(builder: &mut Builder, count: u32) -> Result<(), Memory>
     requires room { length builder.old + count < 2 ^ 32 }
     ensures size { OnOk result (length builder.new ≡ length builder.old + count) }
-    ensures kept { OnOk result ((m : ℕ) → m < length builder.old → node_at builder.new m ≡ node_at builder.old m) }
-    ensures bits { OnOk result ((b : ℕ) → b < count → node_at builder.new (length builder.old + b) ≡ InputNode b) }
+    ensures kept { OnOk result
+        ((m : ℕ) → m < length builder.old → node_at builder.new m ≡ node_at builder.old m) }
+    ensures bits { OnOk result
+        ((b : ℕ) → b < count → node_at builder.new (length builder.old + b) ≡ InputNode b) }
 {
     for b in 0..count {
         builder.node(Node::Input(b))?;
@@ -83,7 +85,8 @@ fn put_word(
     ensures grown { OnOk result (Grown (cost_of (tree_of word.now)) builder.old builder.new) }
     ensures size { IfOk result (λ nodes. length nodes ≡ width (tree_of word.now)) }
     ensures spells { IfOk result (λ nodes. Spells builder.new nodes 0 (width (tree_of word.now))
-        (bits_in nets.now earlier.now (tree_of word.now)) (asks_in nets.now earlier.now (tree_of word.now))) }
+        (bits_in nets.now earlier.now (tree_of word.now))
+        (asks_in nets.now earlier.now (tree_of word.now))) }
 {
     let mut stack = Vec::new(alloc);
     push_word(word, nets, starts, earlier, builder, &mut stack)?;
@@ -103,8 +106,10 @@ fn put_words(
     requires constants { HasConstants builder.old }
     requires bits { 2 + bits_of nets.now ≤ length builder.old }
     requires room { length builder.old + sum_by cost_of (trees_of words.now) ≤ 2 ^ 21 }
-    ensures grown { OnOk result (Grown (sum_by cost_of (trees_of words.now)) builder.old builder.new) }
-    ensures rows { IfOk result (λ rows. HasRows nets.now (trees_of words.now) (length words.now) builder.new rows.items) }
+    ensures grown { OnOk result
+        (Grown (sum_by cost_of (trees_of words.now)) builder.old builder.new) }
+    ensures rows { IfOk result
+        (λ rows. HasRows nets.now (trees_of words.now) (length words.now) builder.new rows.items) }
 {
     words_follow_their_picks();
     let mut rows = Vec::with_capacity(alloc, words.len())?;

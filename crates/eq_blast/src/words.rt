@@ -52,8 +52,12 @@ pub fn picked(bit: WordBit, earlier: &[NodeIds]) -> u32
 }
 
 fn push_constant(bits: &[bool], stack: &mut Vec<u32>) -> Result<(), Memory>
-    ensures written { OnOk result (Written (length stack.old.items) (length bits.now) stack.old.items stack.new.items) }
-    ensures put { OnOk result ((j : ℕ) → j < length bits.now → slice_index_or stack.new.items (length stack.old.items + j) 0 ≡ cond {A = ℕ} (slice_index_or bits.now j false) 1 0) }
+    ensures written { OnOk result
+        (Written (length stack.old.items) (length bits.now) stack.old.items stack.new.items) }
+    ensures put { OnOk result
+        ((j : ℕ) → j < length bits.now →
+        slice_index_or stack.new.items (length stack.old.items + j) 0 ≡
+        cond {A = ℕ} (slice_index_or bits.now j false) 1 0) }
 {
     for bit in bits {
         push(stack, if *bit { 1 } else { 0 })?;
@@ -70,8 +74,12 @@ fn push_named(
     requires named { All (HasBit nets.now) names.now }
     requires starts { BeginAt nets.now starts.now }
     requires few { 2 + bits_of nets.now < 2 ^ 32 }
-    ensures written { OnOk result (Written (length stack.old.items) (length names.now) stack.old.items stack.new.items) }
-    ensures put { OnOk result ((j : ℕ) → j < length names.now → slice_index_or stack.new.items (length stack.old.items + j) 0 ≡ if_there 0 (λ (n : BitName). node_of (number_of nets.now n)) (slice_get names.now j)) }
+    ensures written { OnOk result
+        (Written (length stack.old.items) (length names.now) stack.old.items stack.new.items) }
+    ensures put { OnOk result
+        ((j : ℕ) → j < length names.now →
+        slice_index_or stack.new.items (length stack.old.items + j) 0 ≡
+        if_there 0 (λ (n : BitName). node_of (number_of nets.now n)) (slice_get names.now j)) }
 {
     for name in names {
         push(stack, named(*name, nets, starts))?;
@@ -80,8 +88,12 @@ fn push_named(
 }
 
 fn push_picked(bits: &[WordBit], earlier: &[NodeIds], stack: &mut Vec<u32>) -> Result<(), Memory>
-    ensures written { OnOk result (Written (length stack.old.items) (length bits.now) stack.old.items stack.new.items) }
-    ensures put { OnOk result ((j : ℕ) → j < length bits.now → slice_index_or stack.new.items (length stack.old.items + j) 0 ≡ if_there 0 (λ (b : WordBit). row earlier.now b.word b.bit) (slice_get bits.now j)) }
+    ensures written { OnOk result
+        (Written (length stack.old.items) (length bits.now) stack.old.items stack.new.items) }
+    ensures put { OnOk result
+        ((j : ℕ) → j < length bits.now →
+        slice_index_or stack.new.items (length stack.old.items + j) 0 ≡
+        if_there 0 (λ (b : WordBit). row earlier.now b.word b.bit) (slice_get bits.now j)) }
 {
     for bit in bits {
         push(stack, picked(*bit, earlier))?;
@@ -103,7 +115,9 @@ pub fn push_word(
     requires starts { BeginAt nets.now starts.now }
     requires ready { Ready nets.now earlier.now builder.old stack.old.items }
     requires room { length builder.old + cost_of (tree_of word.now) ≤ 2 ^ 21 }
-    ensures { OnOk result (Puts nets.now earlier.now (tree_of word.now) builder.old builder.new stack.old.items stack.new.items) }
+    ensures { OnOk result
+        (Puts nets.now earlier.now
+        (tree_of word.now) builder.old builder.new stack.old.items stack.new.items) }
 {
     operations_see_their_bits();
     bits_stand_by_nets();
@@ -163,7 +177,9 @@ fn push_parts(
     requires starts { BeginAt nets.now starts.now }
     requires ready { Ready nets.now earlier.now builder.old stack.old.items }
     requires room { length builder.old + cost_of (join_all (trees_of parts.now)) ≤ 2 ^ 21 }
-    ensures { OnOk result (Puts nets.now earlier.now (join_all (trees_of parts.now)) builder.old builder.new stack.old.items stack.new.items) }
+    ensures { OnOk result
+        (Puts nets.now earlier.now
+        (join_all (trees_of parts.now)) builder.old builder.new stack.old.items stack.new.items) }
 {
     for turn in 0..parts.len() {
         push_word(

@@ -9,7 +9,7 @@ use Rattle.eq_compose.specs.declared.types.Verdict.{Verdict}
 use Rattle.eq_compose.specs.declared.types.Verdict.TheVariants.{Proved, Fail, Unknown}
 use Rattle.eq_induct.specs.declared.types.PartVerdict.{PartVerdict}
 use Rattle.eq_induct.specs.declared.types.PartVerdict.TheVariants as part
-use Rattle.test_plans.specs.declared.work.Work.{Work}
+use Rattle.test_plans.specs.declared.row.Work.{Work}
 
 -- the graphs are those of the netlists, and the plan and its table are theirs
 pub record IsWork (w : Work) : Type 0 where

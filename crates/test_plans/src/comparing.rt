@@ -12,7 +12,7 @@ ghost use Rattle.eq_part.specs.Plans.{IsPlanOf};
 ghost use Rattle.eq_cone.specs.Cut.{HasGoldBits, HasOutputsOnce};
 ghost use Rattle.test_plans.specs.Work.{IsWork};
 
-use crate::work::{Work, row};
+use crate::row::{Work, row};
 use eq_blast::blast;
 use eq_compose::{Rows, Whole, conclude};
 use eq_cone::laws::tables_fit;

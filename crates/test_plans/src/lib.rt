@@ -6,7 +6,7 @@
 //! - `group_rows`, `grouping`: which pairs stand in groups.
 //! - `wires`, `chains`: netlists made by hand of wires that read one another. `crossing`: two whose reads cross.
 //! - `part_rows`, `dividing`: which partitions groups make, and their names.
-//! - `work`: one partition of a plan, from its cut to its row. `comparing`: all of them, and what they say together
+//! - `row`: one partition of a plan, from its cut to its row. `comparing`: all of them, and what they say together
 //!   (`Equivalent`). `deciding`: netlists compared so, through all layers.
 #![tactic(auto)]
 
@@ -36,9 +36,9 @@ mod pairing;
 mod part_rows;
 #[cfg(test)]
 mod ports;
+mod row;
 #[cfg(test)]
 mod signals;
 mod types;
 #[cfg(test)]
 mod wires;
-mod work;

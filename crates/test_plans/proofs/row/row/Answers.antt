@@ -4,7 +4,7 @@ use Rattle.eq_compose.specs.Rows.{IsRight}
 use Rattle.eq_compose.specs.declared.types.Verdict.{Verdict}
 use Rattle.eq_net.specs.Whole.{parts_of}
 use Rattle.test_plans.proofs.Rows.{right_row}
-use Rattle.test_plans.proofs.work.row.Goals as goal
+use Rattle.test_plans.proofs.row.row.Goals as goal
 
 pub returns-clause-right : goal.returns-clause-right
 returns-clause-right c =
