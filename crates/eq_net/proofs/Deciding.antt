@@ -3,6 +3,7 @@ use Rattle.std.proofs.Common.{◌≡◌, ◌≢◌, ℕ, zero, suc, ◌<◌, ◌
 use Rattle.std.specs.List.{list_any}
 use Rattle.std.specs.Option.{ForSome}
 use Rattle.std.proofs.lemmas.Bool.{cases_lt, eqb-true, leb-true, ltb-true}
+use Rattle.std.proofs.lemmas.List.Elements.{All-contains}
 use Rattle.eq_model.specs.Nets.{Dir as Side, inner, is_input, is_output, at_bit}
 use Rattle.eq_model.specs.System.{System, IsSystem, IsLoopFree, Reads as ReadsBit, reads_now}
 use Rattle.eq_names.specs.declared.BitName.{BitName}
@@ -17,7 +18,7 @@ use Rattle.eq_net.specs.Operators.{has_free_sizes}
 use Rattle.eq_net.specs.Tree.{Tree, const, read, pick, negated, opposite, binary, reduced, choice, empty, joined, extended}
 use Rattle.eq_net.specs.Meaning.{reads_of, table, width}
 use Rattle.eq_net.specs.Net.{AreWords, HasBit, HasWordBit, IsClock, IsNet, IsPortNet, IsWord, NamesWord, Parts, bits_of, driver_at, least_cost, most_cost, net_at, nets_of, number_of, source_of, system_of, word_at}
-use Rattle.eq_net.specs.Decided.{apart, below, every, has_bit, has_word_bit, is_above, is_clock, is_input_port, is_input_side, is_net, is_outside, is_port, is_ranked, is_word, names_word, same_name, same_truth, tests}
+use Rattle.eq_net.specs.Decided.{all_hold, apart, below, every, has_bit, has_word_bit, is_above, is_clock, is_input_port, is_input_side, is_net, is_net_by_bits, is_outside, is_port, is_ranked, is_word, names_word, reads_below, same_name, same_truth, tests_with}
 use Rattle.eq_net.proofs.Bounded.{AreIn, LeavesIn, none, word_in}
 use Rattle.eq_net.proofs.Designed.{words_make_a_system}
 
@@ -240,42 +241,57 @@ driver_ranked n rank tops low Undriven a e b c = (let lt : c.0 < 0 = c.1 in absu
 driver_ranked n rank tops low (WordOf w j) a e b c = (let lt = low w j b c in let le = leb-true (tops w) (rank a) e in omega arith)
 driver_ranked n rank tops low (Reg init w j) a e b c = (let lt : c.0 < 0 = c.1 in absurd (omega arith))
 
+-- a netlist whose points hold is a net, where the order of reading leaves no loop
+points : (n : Parts) (words bits : Bool) → all_hold (tests_with words bits n) ≡ true →
+    (AreWords n.nets n.words → words ≡ true → bits ≡ true → IsLoopFree (system_of n)) → IsNet n
+points n words bits e loop_free =
+    let t = tests_with words bits n in
+    let e1 = right t.names _ e in
+    let e2 = right t.one_driver _ e1 in
+    let e3 = right t.words_read _ e2 in
+    let e4 = right t.drivers_named _ e3 in
+    let e5 = right t.inputs _ e4 in
+    let e6 = right t.ports_apart _ e5 in
+    let e7 = right t.ports_are _ e6 in
+    let e8 = right t.all_ports _ e7 in
+    let e9 = right t.clocked _ e8 in
+    let e10 = right t.words_ranked _ e9 in
+    let e11 = right t.bits_ranked _ e10 in
+    let are : AreWords n.nets n.words = λ k lt. a_word n.nets n.words k (word_at n.words k)
+    (each_below (λ i. is_word n.nets n.words i (word_at n.words i)) (length n.words) (left t.words_read _ e2) k lt) in
+    record {
+      names = pairs_apart (λ (a b : NetInfo). same_name a.name b.name) (λ a b. a.name ≢ b.name) (λ a b f. names_differ a.name b.name f) n.nets (left t.names _ e);
+      one_driver = eqb-true (length n.drivers) (bits_of n.nets) (left t.one_driver _ e1);
+      words_read = are;
+      drivers_named = all_of_every (names_word n.words) (NamesWord n.words) (a_driver n.words) n.drivers (left t.drivers_named _ e3);
+      inputs = λ b lt. an_input (driver_at n b) (at_bit inner (λ m p. m.dir) (nets_of n.nets) b)
+          (each_below (λ i. same_truth (is_outside (driver_at n i)) (is_input_side (at_bit inner (λ m p. m.dir) (nets_of n.nets) i))) (bits_of n.nets) (left t.inputs _ e4) b lt);
+      ports_apart = pairs_apart (λ p q. p == q) (λ p q. p ≢ q) numbers_differ n.ports (left t.ports_apart _ e5);
+      ports_are = all_of_every (λ k. nat_lt k (length n.nets) && is_port (net_at n.nets k).dir) (IsPortNet n.nets)
+          (λ k f. (ltb-true k (length n.nets) (left (nat_lt k (length n.nets)) (is_port (net_at n.nets k).dir) f), not_inner (net_at n.nets k).dir (right (nat_lt k (length n.nets)) (is_port (net_at n.nets k).dir) f)))
+          n.ports (left t.ports_are _ e6);
+      all_ports = λ k is. (unless (is_port (net_at n.nets k).dir) (list_any (λ p. p == k) n.ports)
+          (each_below (λ i. not (is_port (net_at n.nets i).dir) || list_any (λ p. p == i) n.ports) (length n.nets) (left t.all_ports _ e7) k is.0) (port_of (net_at n.nets k).dir is.1));
+      clocked = a_clock n.nets n.clock (left t.clocked _ e8);
+      loop_free = loop_free are (left t.words_ranked _ e9) (left t.bits_ranked _ e10);
+      covered = leb-true (least_cost n) n.cost (left (nat_le (least_cost n) n.cost) (nat_le n.cost most_cost) e11);
+      limited = leb-true n.cost most_cost (right (nat_le (least_cost n) n.cost) (nat_le n.cost most_cost) e11);
+    }
+
 module _ (ranked : (s : System) → IsSystem s → (rank : ℕ → ℕ) → ((a b : ℕ) → a < s.bits → ReadsBit s a b → rank b < rank a) → IsLoopFree s) where
   -- a netlist of which the test says yes is a net
   pub decided : (rank tops : ℕ → ℕ) (n : Parts) → is_net rank tops n ≡ true → IsNet n
   decided rank tops n e =
-      let t = tests rank tops n in
-      let e1 = right t.names _ e in
-      let e2 = right t.one_driver _ e1 in
-      let e3 = right t.words_read _ e2 in
-      let e4 = right t.drivers_named _ e3 in
-      let e5 = right t.inputs _ e4 in
-      let e6 = right t.ports_apart _ e5 in
-      let e7 = right t.ports_are _ e6 in
-      let e8 = right t.all_ports _ e7 in
-      let e9 = right t.clocked _ e8 in
-      let e10 = right t.words_ranked _ e9 in
-      let e11 = right t.bits_ranked _ e10 in
-      let are : AreWords n.nets n.words = λ k lt. a_word n.nets n.words k (word_at n.words k)
-      (each_below (λ i. is_word n.nets n.words i (word_at n.words i)) (length n.words) (left t.words_read _ e2) k lt) in
+      points n _ _ e (λ are words bits. (
       let low = table_ranked rank tops (number_of n.nets) n.words
-      (each_below (λ k. is_ranked rank tops (number_of n.nets) (tops k) (word_at n.words k)) (length n.words) (left t.words_ranked _ e9)) (length n.words) (omega arith) in
-      record {
-        names = pairs_apart (λ (a b : NetInfo). same_name a.name b.name) (λ a b. a.name ≢ b.name) (λ a b f. names_differ a.name b.name f) n.nets (left t.names _ e);
-        one_driver = eqb-true (length n.drivers) (bits_of n.nets) (left t.one_driver _ e1);
-        words_read = are;
-        drivers_named = all_of_every (names_word n.words) (NamesWord n.words) (a_driver n.words) n.drivers (left t.drivers_named _ e3);
-        inputs = λ b lt. an_input (driver_at n b) (at_bit inner (λ m p. m.dir) (nets_of n.nets) b)
-            (each_below (λ i. same_truth (is_outside (driver_at n i)) (is_input_side (at_bit inner (λ m p. m.dir) (nets_of n.nets) i))) (bits_of n.nets) (left t.inputs _ e4) b lt);
-        ports_apart = pairs_apart (λ p q. p == q) (λ p q. p ≢ q) numbers_differ n.ports (left t.ports_apart _ e5);
-        ports_are = all_of_every (λ k. nat_lt k (length n.nets) && is_port (net_at n.nets k).dir) (IsPortNet n.nets)
-            (λ k f. (ltb-true k (length n.nets) (left (nat_lt k (length n.nets)) (is_port (net_at n.nets k).dir) f), not_inner (net_at n.nets k).dir (right (nat_lt k (length n.nets)) (is_port (net_at n.nets k).dir) f)))
-            n.ports (left t.ports_are _ e6);
-        all_ports = λ k is. (unless (is_port (net_at n.nets k).dir) (list_any (λ p. p == k) n.ports)
-            (each_below (λ i. not (is_port (net_at n.nets i).dir) || list_any (λ p. p == i) n.ports) (length n.nets) (left t.all_ports _ e7) k is.0) (port_of (net_at n.nets k).dir is.1));
-        clocked = a_clock n.nets n.clock (left t.clocked _ e8);
-        loop_free = ranked (system_of n) (words_make_a_system n are) rank (λ a b lt reads. driver_ranked n rank tops low (driver_at n a) a
-            (each_below (λ i. is_above tops (driver_at n i) (rank i)) (bits_of n.nets) (left t.bits_ranked _ e10) a lt) b reads);
-        covered = leb-true (least_cost n) n.cost (left (nat_le (least_cost n) n.cost) (nat_le n.cost most_cost) e11);
-        limited = leb-true n.cost most_cost (right (nat_le (least_cost n) n.cost) (nat_le n.cost most_cost) e11);
-      }
+      (each_below (λ k. is_ranked rank tops (number_of n.nets) (tops k) (word_at n.words k)) (length n.words) words) (length n.words) (omega arith) in
+      ranked (system_of n) (words_make_a_system n are) rank (λ a b lt reads. driver_ranked n rank tops low (driver_at n a) a
+      (each_below (λ i. is_above tops (driver_at n i) (rank i)) (bits_of n.nets) bits a lt) b reads)))
+
+  -- and so is one of which the test of bits does
+  pub decided_by_bits : (rank : ℕ → ℕ) (n : Parts) → is_net_by_bits rank n ≡ true → IsNet n
+  decided_by_bits rank n e =
+      points n true _ e (λ are words bits. ranked (system_of n) (words_make_a_system n are) rank (λ a b lt reads.
+      All-contains (λ r. rank r < rank a) (reads_now ((system_of n).driver a)) b
+      (all_of_every (λ r. nat_lt (rank r) (rank a)) (λ r. rank r < rank a) (λ r. ltb-true (rank r) (rank a)) (reads_now ((system_of n).driver a))
+      (each_below (reads_below rank n) (bits_of n.nets) bits a lt)) reads))

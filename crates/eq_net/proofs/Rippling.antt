@@ -1,5 +1,5 @@
 -- Operations on numbers bit by bit, from the lowest bit up.
-use Rattle.std.proofs.Common.{◌≡◌, ℕ, zero, suc, ◌+◌, ◌-◌, ◌*◌, ◌/◌, ◌^◌, ◌<◌, ◌≤◌, Bool, true, false, not, nat_lt, nat_le, ◌&&◌, ◌||◌, ◌==◌, cond, min, refl, add-one, arith, sym, ap, subst, ◌∙◌, inl, inr, eq-eqb}
+use Rattle.std.proofs.Common.{◌≡◌, ℕ, zero, suc, ◌+◌, ◌-◌, ◌^◌, ◌<◌, ◌≤◌, Bool, true, false, not, nat_lt, nat_le, ◌&&◌, ◌||◌, ◌==◌, cond, min, refl, add-one, arith, sym, ap, subst, ◌∙◌, inl, inr, eq-eqb}
 use Rattle.std.proofs.lemmas.Bool.{cases_lt, lt-ltb, lt-leb, le-leb, eqb-true, false_from_ne_true, cases_Bool}
 use Rattle.eq_net.specs.Numbers.{Digits, differ, number, digit}
 use Rattle.eq_net.specs.Ripples.{carry, less, same, raised, lowered}

@@ -1,8 +1,10 @@
--- What a net keeps, as a test that computes. It says yes of fewer netlists than keep it: the order of reading is asked of whole
--- words, so a word that reads its own bits isn't among them. This project's own.
+-- What a net keeps, as tests that compute. They say yes of fewer netlists than keep it: the first asks for an order of reading
+-- of whole words, so a word that reads its own bits isn't among its netlists; the second asks for an order of bits, and looks
+-- at all that each reads, so it takes longer. This project's own.
 use Rattle.std.specs.Prelude.{ℕ, zero, suc, List, [], ◌∷◌, Bool, true, false, not, ◌&&◌, ◌||◌, ◌==◌, nat_lt, nat_le, length, Option, Some, None}
 use Rattle.std.specs.List.{list_any}
 use Rattle.eq_model.specs.Nets.{Dir as Side, inner, is_input, is_output, at_bit}
+use Rattle.eq_model.specs.System.{reads_now}
 use Rattle.eq_names.specs.declared.BitName.{BitName}
 use Rattle.eq_net.specs.declared.types.NetInfo.{NetInfo}
 use Rattle.eq_net.specs.declared.types.WordBit.{WordBit}
@@ -14,7 +16,7 @@ use Rattle.eq_net.specs.Nets.{width_of}
 use Rattle.eq_net.specs.Operators.{has_free_sizes}
 use Rattle.eq_net.specs.Tree.{Tree, const, read, pick, negated, opposite, binary, reduced, choice, empty, joined, extended}
 use Rattle.eq_net.specs.Meaning.{width}
-use Rattle.eq_net.specs.Net.{Parts, bits_of, driver_at, least_cost, most_cost, net_at, nets_of, number_of, word_at}
+use Rattle.eq_net.specs.Net.{Parts, bits_of, driver_at, least_cost, most_cost, net_at, nets_of, number_of, source_of, word_at}
 
 -- p holds of all of a list, and of all numbers below n
 abbrev pub every : {A : Type 0} → (A → Bool) → List A → Bool
@@ -136,9 +138,9 @@ pub record Tests : Type 0 where
   pub bits_ranked : Bool
   pub cost : Bool
 
--- each point of a net as a test
-abbrev pub tests : (ℕ → ℕ) → (ℕ → ℕ) → Parts → Tests
-tests rank tops n = record {
+-- each point of a net as a test, but for the order of reading, of words and of bits
+abbrev pub tests_with : Bool → Bool → Parts → Tests
+tests_with words bits n = record {
   names = apart (λ (a b : NetInfo). same_name a.name b.name) n.nets;
   one_driver = length n.drivers == bits_of n.nets;
   words_read = below (λ k. is_word n.nets n.words k (word_at n.words k)) (length n.words);
@@ -148,10 +150,19 @@ tests rank tops n = record {
   ports_are = every (λ k. nat_lt k (length n.nets) && is_port (net_at n.nets k).dir) n.ports;
   all_ports = below (λ k. not (is_port (net_at n.nets k).dir) || list_any (λ p. p == k) n.ports) (length n.nets);
   clocked = is_clock n.nets n.clock;
-  words_ranked = below (λ k. is_ranked rank tops (number_of n.nets) (tops k) (word_at n.words k)) (length n.words);
-  bits_ranked = below (λ b. is_above tops (driver_at n b) (rank b)) (bits_of n.nets);
+  words_ranked = words;
+  bits_ranked = bits;
   cost = nat_le (least_cost n) n.cost && nat_le n.cost most_cost;
 }
+
+abbrev pub tests : (ℕ → ℕ) → (ℕ → ℕ) → Parts → Tests
+tests rank tops n = tests_with
+    (below (λ k. is_ranked rank tops (number_of n.nets) (tops k) (word_at n.words k)) (length n.words))
+    (below (λ b. is_above tops (driver_at n b) (rank b)) (bits_of n.nets)) n
+
+-- what bit b reads within a cycle has a lower rank
+abbrev pub reads_below : (ℕ → ℕ) → Parts → ℕ → Bool
+reads_below rank n b = every (λ r. nat_lt (rank r) (rank b)) (reads_now (source_of n.nets n.words (driver_at n b)))
 
 abbrev pub all_hold : Tests → Bool
 all_hold t =
@@ -160,3 +171,7 @@ all_hold t =
 
 abbrev pub is_net : (ℕ → ℕ) → (ℕ → ℕ) → Parts → Bool
 is_net rank tops n = all_hold (tests rank tops n)
+
+-- the test where each bit has a rank and nothing is said of words
+abbrev pub is_net_by_bits : (ℕ → ℕ) → Parts → Bool
+is_net_by_bits rank n = all_hold (tests_with true (below (reads_below rank n) (bits_of n.nets)) n)

@@ -206,8 +206,8 @@ fn go_round(alloc: Global, net: &Net, starts: &[u32], now: &mut [bool]) -> Resul
 /// Gives all bits their values in one cycle, in which the inputs and the registers have the values that stand in `now`.
 /// Answers the bits of all words.
 ///
-/// Each word is evaluated once, behind those that it reads. Rounds follow only where no such order was found, since words
-/// read one another bit by bit.
+/// Each word is evaluated once, behind those that it reads. Where no such order was found, since words read one another bit
+/// by bit, what is left has been computed bit by bit, and rounds check it: one, where each bit came behind what it reads.
 fn solve(alloc: Global, net: &Net, now: &mut [bool]) -> Result<Vec<Bits>, Memory>
     requires { length now.old ≡ bits_of net.now.nets }
     ensures cycle { IfOk result (λ words.

@@ -6,7 +6,7 @@ ghost use Rattle.eq_model.specs.Frames.{values};
 ghost use Rattle.eq_model.specs.System.{HasOneCycle, IsSystem, Values};
 ghost use Rattle.eq_net.specs.Cycles.{AreSteps};
 ghost use Rattle.eq_names.specs.declared.BitName.{BitName};
-ghost use Rattle.eq_net.specs.Decided.{is_net};
+ghost use Rattle.eq_net.specs.Decided.{is_net, is_net_by_bits};
 ghost use Rattle.eq_net.specs.Following.{ChoicesFollow, ExtensionsFollow, NegativesFollow, OperationsFollow, ReductionsFollow};
 ghost use Rattle.eq_net.specs.Meaning.{bit_of, result_size};
 ghost use Rattle.eq_net.specs.Net.{AreWords, HasWordBit, IsNet, IsWord, Parts, bits_of, design_of, net_at, offset, system_of};
@@ -73,6 +73,14 @@ pub fn operators_follow_reads()
 /// constants is shown to be a net by computing. The proof stands in proofs/Deciding.antt.
 pub fn test_of_nets()
     ensures { (rank tops : ℕ → ℕ) (n : Parts) → is_net rank tops n ≡ true → IsNet n }
+{
+    ranked();
+}
+
+/// The same of a test that looks at each bit's reads, so that words may read their own bits. The proof stands in
+/// proofs/Deciding.antt.
+pub fn test_of_bits()
+    ensures { (rank : ℕ → ℕ) (n : Parts) → is_net_by_bits rank n ≡ true → IsNet n }
 {
     ranked();
 }

@@ -8,6 +8,7 @@
 //! - `ordering`, `chains`: an order of the words, and what each drives, of which nothing is promised. `readiness`: whether all
 //!   that a word reads has its value (`IsReady`). `sweep`: each word evaluated once, behind what it reads (`AreMarked`,
 //!   `AreWhole`).
+//! - `cells`, `circuits`, `trial`: the bits that the sweep leaves, computed one by one, of which nothing is promised.
 //! - `cycle`: the first state, and one step (`IsStep`).
 //! - `laws`: a net is a design, steps are its run. `examples`: what the definitions say, on numbers.
 #![tactic(auto)]
@@ -15,7 +16,9 @@
 mod arithmetic;
 mod automatic;
 mod bitwise;
+mod cells;
 mod chains;
+mod circuits;
 mod cycle;
 pub mod examples;
 pub mod laws;
@@ -27,6 +30,7 @@ mod readiness;
 mod reduction;
 mod stack;
 mod sweep;
+mod trial;
 mod types;
 mod word;
 

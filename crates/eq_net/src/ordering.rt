@@ -1,5 +1,5 @@
 //! An order of the words in which each stands behind those that it reads. Nothing is promised of it: a word is evaluated only
-//! where all that it reads has its value, and what is left is solved by rounds.
+//! where all that it reads has its value, and what is left is computed bit by bit.
 
 use crate::net::Net;
 use crate::types::{Driver, Word};

@@ -16,6 +16,7 @@ use crate::chains::{Chains, driven_chains, link_at};
 use crate::net::Net;
 use crate::ordering::word_order;
 use crate::readiness::{are_all, is_marked, is_ready};
+use crate::trial::try_bits;
 use crate::types::{Driver, WordBit};
 use crate::word::{evaluate, picked};
 use eq_base::{Bits, Memory};
@@ -262,7 +263,7 @@ fn no_marks(alloc: Global, count: usize) -> Result<Vec<bool>, Memory>
 }
 
 /// Evaluates each word once, behind those that it reads where there is such an order. Answers the bits of all words, where
-/// each bit and each word has its final value. What a cycle doesn't compute stays.
+/// each bit and each word has its final value, or none, and then bits have trial values. What a cycle doesn't compute stays.
 pub fn sweep_all(
     alloc: Global,
     net: &Net,
@@ -291,6 +292,7 @@ pub fn sweep_all(
     if are_all(&done) && are_all(&whole) {
         Ok(Some(words))
     } else {
+        try_bits(alloc, net, starts, &words, &whole, now, &done)?;
         Ok(None)
     }
 }

@@ -3,3 +3,4 @@ pub mod Forms
 pub mod Operators
 pub mod Ripple
 pub mod Steps
+pub mod Vectors

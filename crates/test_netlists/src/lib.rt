@@ -11,6 +11,7 @@
 //! - `operator_rows`, `operators`: each operator of two operands in a step, at each width.
 //! - `ripple`: a sum whose carries are a net of their own.
 //! - `steps`: a counter, step by step.
+//! - `vectors`: words that read their own bits and one another's.
 #![tactic(auto)]
 
 #[cfg(test)]
@@ -39,3 +40,5 @@ mod operators;
 mod ripple;
 #[cfg(test)]
 mod steps;
+#[cfg(test)]
+mod vectors;

@@ -47,7 +47,7 @@ fn carry(alloc: Global, place: u32) -> Result<Word, Fail>
     binary(alloc, WordOp::Or, left, right)
 }
 
-fn none(alloc: Global) -> Result<Word, Fail>
+pub fn none(alloc: Global) -> Result<Word, Fail>
     ensures { IfOk result (λ word. tree_of word ≡ const (false ∷ [])) }
 {
     Ok(Word::Const(Bits::from_slice(alloc, &[false])?))
