@@ -1,8 +1,7 @@
 -- A netlist of one word, in which one shift stands in another. This project's own.
-use Rattle.std.specs.Prelude.{ℕ, zero, suc, ◌-◌, ◌*◌, List, [], ◌∷◌, ◌++◌, Bool, true, false, nat_lt, None, if◌then◌else◌}
+use Rattle.std.specs.Prelude.{ℕ, zero, suc, ◌*◌, List, [], ◌∷◌, ◌++◌, Bool, nat_lt, None, if◌then◌else◌}
 use Rattle.eq_names.specs.declared.BitName.{BitName}
 use Rattle.eq_net.specs.declared.types.NetInfo.{NetInfo}
-use Rattle.eq_net.specs.declared.types.Dir.{Dir}
 use Rattle.eq_net.specs.declared.types.Dir.TheVariants.{Input as InputPort, Output as OutputPort}
 use Rattle.eq_net.specs.declared.types.WordOp.TheVariants as op
 use Rattle.eq_net.specs.declared.types.Driver.{Driver}
@@ -10,14 +9,12 @@ use Rattle.eq_net.specs.declared.types.Driver.TheVariants.{Input, Expr}
 use Rattle.eq_net.specs.Tree.{Tree, read, binary}
 use Rattle.eq_net.specs.Net.{Parts}
 use Rattle.eq_net.specs.Decided.{is_net}
+use Rattle.test_series.specs.Lists.{ranged}
 
 -- the n lowest bits of a net
 abbrev pub places : ℕ → ℕ → List BitName
 places net zero = []
 places net (suc n) = places net n ++ record { net = net; bit = n } ∷ []
-
-abbrev pub ranged : List ℕ → ℕ → Dir → NetInfo
-ranged name width dir = record { name = name; left = width - 1; right = 0; ranged = true; dir = dir; auto = false }
 
 abbrev pub inputs : ℕ → List Driver
 inputs zero = []

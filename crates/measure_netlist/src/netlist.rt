@@ -2,15 +2,15 @@
 
 ghost use Rattle.std.specs.Prelude.{◌≡◌, ◌*◌, ◌++◌, ◌≤◌, [], ◌∷◌, IfOk, OnOk, true};
 ghost use Rattle.eq_net.specs.Tree.{binary as binary_tree, read, tree_of, trees_of};
-ghost use Rattle.measure_netlist.specs.Nested.{driven, inputs, is_good, nested as nested_of, nets as nets_of, places as places_of, ranged as ranged_of};
+ghost use Rattle.measure_netlist.specs.Nested.{driven, inputs, is_good, nested as nested_of, nets as nets_of, places as places_of};
 
 use eq_base::{Boxed, Memory};
 use eq_net::laws::test_of_nets;
 use eq_net::{
-    BitName, BitNames, Dir, Driver, Drivers, Name, Net, NetInfo, NetInfos, NetNumbers, Word,
-    WordOp, Words,
+    BitName, BitNames, Dir, Driver, Drivers, Net, NetInfos, NetNumbers, Word, WordOp, Words,
 };
-use std::alloc::{AllocError, Global};
+use std::alloc::Global;
+use test_series::ranged;
 
 fn places(alloc: Global, net: u32, width: u32) -> Result<BitNames, Memory>
     ensures { IfOk result (λ names. names ≡ places_of net width) }
@@ -92,28 +92,6 @@ fn drivers(alloc: Global, width: u32) -> Result<Drivers, Memory>
     push_inputs(2 * width, &mut drivers)?;
     push_driven(width, &mut drivers)?;
     Ok(drivers)
-}
-
-fn named(alloc: Global, name: &[u8]) -> Result<Name, Memory>
-    ensures { IfOk result (λ read. read ≡ name.now) }
-{
-    match Name::read(alloc, name) {
-        Ok(name) => Ok(name),
-        Err(_) => Err(AllocError),
-    }
-}
-
-pub fn ranged(alloc: Global, name: &[u8], width: u32, dir: Dir) -> Result<NetInfo, Memory>
-    ensures { IfOk result (λ net. net ≡ ranged_of name.now width dir) }
-{
-    Ok(NetInfo {
-        name: named(alloc, name)?,
-        left: width.saturating_sub(1),
-        right: 0,
-        ranged: true,
-        dir,
-        auto: false,
-    })
 }
 
 fn nets(alloc: Global, width: u32) -> Result<NetInfos, Memory>

@@ -1,4 +1,4 @@
-//! Steps of the chain: in each the input is the number of the step.
+//! Steps of the chain, in which the input is the number of the step, and of the carries, in which one comes in or none.
 
 use eq_net::{Bits, Memory, Net, initial, step};
 use std::alloc::Global;
@@ -44,6 +44,26 @@ pub fn last_sum(alloc: Global, net: &Net, steps: u32) -> Result<u64, Memory> {
     let mut last = 0;
     for number in 0..steps {
         last = sum(alloc, net, number.wrapping_add(1))?;
+    }
+    Ok(last)
+}
+
+/// The last eight carries of all ones and zero, where one comes in or none.
+fn carried(alloc: Global, net: &Net, carry: bool) -> Result<u64, Memory> {
+    let count = net.inputs();
+    let mut inputs = Bits::new(alloc);
+    for place in 0..count {
+        inputs.push(place < count / 2 || (carry && place == count - 1))?;
+    }
+    let values = stepped(alloc, net, inputs.as_slice())?;
+    Ok(last_number(values.as_slice()))
+}
+
+/// The last eight carries in the last of some steps. In the first, and in each other one after it, a carry comes in.
+pub fn last_carries(alloc: Global, net: &Net, steps: u32) -> Result<u64, Memory> {
+    let mut last = 0;
+    for number in 0..steps {
+        last = carried(alloc, net, number % 2 == 0)?;
     }
     Ok(last)
 }

@@ -2,9 +2,11 @@
 
 ghost use Rattle.std.specs.Prelude.{◌≡◌, ◌+◌, ◌*◌, ◌<◌, ◌≤◌, [], ◌∷◌, IfOk, OnOk};
 ghost use Rattle.eq_net.specs.Tree.{binary, tree_of, trees_of};
-ghost use Rattle.measure_netlist.specs.Chain.{chain_nets, driver as driver_of, eight as eight_of, link as link_of, listed, name as name_of};
+ghost use Rattle.eq_net.specs.Whole.{parts_of};
+ghost use Rattle.test_series.specs.Additions.{chain, chain_nets, driver as driver_of, eight as eight_of, link as link_of, name as name_of};
+ghost use Rattle.test_series.specs.Lists.{listed};
 
-use crate::netlist::ranged;
+use crate::making::ranged;
 use eq_base::{Boxed, Memory};
 use eq_net::laws::test_of_nets;
 use eq_net::{
@@ -107,9 +109,10 @@ fn ports(alloc: Global) -> Result<NetNumbers, Memory>
     NetNumbers::from_slice(alloc, &[0, 1])
 }
 
-/// So many additions and one more.
-fn netlist(alloc: Global, last: u32) -> Result<Net, Memory>
+/// A chain of so many additions and one more. It costs 2, one for each bit, and 40 for each addition.
+pub fn chain_of_additions(alloc: Global, last: u32) -> Result<Net, Memory>
     requires { last < 10000 }
+    ensures { IfOk result (λ net. parts_of net ≡ chain last) }
 {
     test_of_nets();
     let nets = nets(alloc, last)?;
@@ -124,9 +127,4 @@ fn netlist(alloc: Global, last: u32) -> Result<Net, Memory>
         clock: None,
         cost: 2_000_000,
     })
-}
-
-/// 1,000 additions. They cost 2, one for each of 8,008 bits, and 40 for each addition.
-pub fn additions(alloc: Global) -> Result<Net, Memory> {
-    netlist(alloc, 999)
 }

@@ -1,9 +1,8 @@
--- The test of a net says yes of the chain, whatever its length. A bit's rank is its number, and a word's top the number of
--- the first bit that it drives.
+-- The test of a net says yes of the chain, whatever its length. A bit's rank is its number, and a word's top the number
+-- of the first bit that it drives.
 use Rattle.std.proofs.Common.{◌≡◌, ℕ, zero, suc, ◌+◌, ◌-◌, ◌*◌, ◌/◌, ◌%◌, ◌<◌, ◌≤◌, List, [], ◌∷◌, ◌++◌, Bool, true, false, ◌&&◌, cond, nat_lt, length, length-append, slice_index_or, refl, arith, ap, sym, subst, ◌∙◌, inl, inr, eq-eqb}
 use Rattle.std.specs.List.{sum_by}
 use Rattle.std.proofs.lemmas.Bool.{cases_lt, le-leb, le-ltb, lt-ltb}
-use Rattle.std.proofs.lemmas.List.{get_or_append_left, get_or_push}
 use Rattle.std.proofs.lemmas.List.Sums.{sum_by_push}
 use Rattle.eq_model.specs.Nets.{at_bit, inner, is_output}
 use Rattle.eq_names.specs.declared.BitName.{BitName}
@@ -13,62 +12,20 @@ use Rattle.eq_net.specs.Tree.{Tree, empty}
 use Rattle.eq_net.specs.Meaning.{cost_of, width}
 use Rattle.eq_net.specs.Net.{bits_of, driver_at, nets_of, number_of, word_at}
 use Rattle.eq_net.specs.Decided.{below, every, has_bit, is_above, is_input_side, is_net, is_outside, is_ranked, is_word, names_word, same_truth}
-use Rattle.measure_netlist.specs.Chain.{chain, chain_nets, driver, link, listed, name}
-
--- ---- truth values and lists
-
-both : {x y : Bool} → x ≡ true → y ≡ true → (x && y) ≡ true
-both {x} {y} e f = ap (λ (t : Bool). t && y) e ∙ f
-
-listed_length : {A : Type 0} (f : ℕ → A) (n : ℕ) → length (listed f n) ≡ n
-listed_length f zero = refl
-listed_length f (suc n) = rw (length-append (listed f n) (f n ∷ [])) (omega (arith, listed_length f n))
-
-listed_at : {A : Type 0} (f : ℕ → A) (n i : ℕ) (d : A) → i < n → slice_index_or (listed f n) i d ≡ f i
-listed_at f zero i d lt = absurd (omega arith)
-listed_at f (suc n) i d lt = elim (cases_lt i n) [
-  | inl less ↦ get_or_append_left (listed f n) (f n ∷ []) d i (omega (arith, listed_length f n)) ∙ listed_at f n i d less
-  | inr more ↦ (
-      let same : n ≡ i = omega arith in
-      let P : ℕ → Type 0 = λ k. slice_index_or (listed f n ++ f n ∷ []) k d ≡ f k in
-      subst P same (get_or_push (listed f n) (f n) d n (listed_length f n)))
-]
-
-guarded : (t x y : Bool) → (x ≡ true → y ≡ true) → (t && x) ≡ true → (t && y) ≡ true
-guarded true x y h e = h e
-guarded false x y h e = e
-
-every_push : {A : Type 0} (p : A → Bool) (xs : List A) (y : A) → every p xs ≡ true → p y ≡ true →
-    every p (xs ++ y ∷ []) ≡ true
-every_push p [] y e f = both f refl
-every_push p (x ∷ xs) y e f = guarded (p x) (every p xs) (every p (xs ++ y ∷ [])) (λ g. every_push p xs y g f) e
-
-every_listed : {A : Type 0} (p : A → Bool) (f : ℕ → A) (n : ℕ) → ((i : ℕ) → i < n → p (f i) ≡ true) →
-    every p (listed f n) ≡ true
-every_listed p f zero h = refl
-every_listed p f (suc n) h =
-    every_push p (listed f n) (f n) (every_listed p f n (λ i lt. h i (omega arith))) (h n (omega arith))
-
-all_below : (p : ℕ → Bool) (n : ℕ) → ((i : ℕ) → i < n → p i ≡ true) → below p n ≡ true
-all_below p zero h = refl
-all_below p (suc n) h = both (all_below p n (λ i lt. h i (omega arith))) (h n (omega arith))
+use Rattle.test_series.specs.Additions.{chain, chain_nets, driver, link, name}
+use Rattle.test_series.specs.Lists.{listed}
+use Rattle.test_series.proofs.Listed.{all_below, both, every_listed, high, listed_at, listed_length, low}
 
 -- ---- the bits
 
 bits_there : (last : ℕ) → bits_of (chain_nets last) ≡ 8 * last + 16
 bits_there last = omega arith
 
-low : {A : Type 0} (x y : A) (b : ℕ) → b < 8 → cond {A = A} (nat_lt b 8) x y ≡ x
-low {A} x y b lt = ap (λ (t : Bool). cond {A = A} t x y) (lt-ltb b 8 lt)
-
-high : {A : Type 0} (x y : A) (b : ℕ) → 8 ≤ b → cond {A = A} (nat_lt b 8) x y ≡ y
-high {A} x y b le = ap (λ (t : Bool). cond {A = A} t x y) (le-ltb b 8 le)
-
 low_name : (b : ℕ) → b < 8 → name b ≡ record { net = 0; bit = b }
-low_name b lt = low _ _ b lt
+low_name b lt = low _ _ b 8 lt
 
 high_name : (b : ℕ) → 8 ≤ b → name b ≡ record { net = 1; bit = b - 8 }
-high_name b le = high _ _ b le
+high_name b le = high _ _ b 8 le
 
 has_name : (last b : ℕ) → b < 8 * last + 16 → has_bit (chain_nets last) (name b) ≡ true
 has_name last b lt =
@@ -87,10 +44,10 @@ number_name last b = elim (cases_lt b 8) [
 -- ---- the drivers
 
 low_driver : (last b : ℕ) → b < 8 → driver last b ≡ Input
-low_driver last b lt = low _ _ b lt
+low_driver last b lt = low _ _ b 8 lt
 
 high_driver : (last b : ℕ) → 8 ≤ b → driver last b ≡ Expr (last - (b - 8) / 8) ((b - 8) % 8)
-high_driver last b le = high _ _ b le
+high_driver last b le = high _ _ b 8 le
 
 has_driver : (last b : ℕ) → b < 8 * last + 16 → driver_at (chain last) b ≡ driver last b
 has_driver last b lt = listed_at (driver last) (8 * last + 16) b Undriven lt
@@ -127,7 +84,7 @@ a_driver last b lt =
     ]
 
 -- what comes from outside, and what is a bit of an input
-agree : (x y z : Bool) → x ≡ z → y ≡ z → same_truth x y ≡ true
+pub agree : (x y z : Bool) → x ≡ z → y ≡ z → same_truth x y ≡ true
 agree true true z e f = refl
 agree false false z e f = refl
 agree true false z e f = absurd (cc)
@@ -138,9 +95,9 @@ an_input : (last b : ℕ) → b < 8 * last + 16 →
     (is_input_side (at_bit inner (λ m p. m.dir) (nets_of (chain_nets last)) b)) ≡ true
 an_input last b lt = elim (cases_lt b 8) [
   | inl less ↦ agree _ _ true (ap is_outside (has_driver last b lt ∙ low_driver last b less))
-      (ap is_input_side (low _ _ b less))
+      (ap is_input_side (low _ _ b 8 less))
   | inr more ↦ agree _ _ false (ap is_outside (has_driver last b lt ∙ high_driver last b more))
-      (ap is_input_side (high _ _ b more ∙ ap (λ (t : Bool). cond t is_output inner) (lt-ltb _ _ (omega arith))))
+      (ap is_input_side (high _ _ b 8 more ∙ ap (λ (t : Bool). cond t is_output inner) (lt-ltb _ _ (omega arith))))
 ]
 
 a_rank : (last k : ℕ) → k < last + 1 →

@@ -4,9 +4,10 @@ use Rattle.eq_net.specs.declared.types.Word.{Word}
 use Rattle.eq_net.specs.declared.types.Driver.{Driver}
 use Rattle.eq_net.specs.Tree.{Tree, trees_of}
 use Rattle.eq_net.specs.Net.{IsNet, Parts, parts}
-use Rattle.measure_netlist.specs.Chain.{chain, chain_nets, driver, link, listed}
-use Rattle.measure_netlist.proofs.Chained.{is_good}
-use Rattle.measure_netlist.proofs.chain.netlist.Goals as goal
+use Rattle.test_series.specs.Additions.{chain, chain_nets, driver, link}
+use Rattle.test_series.specs.Lists.{listed}
+use Rattle.test_series.proofs.Added.{is_good}
+use Rattle.test_series.proofs.additions.chain_of_additions.Goals as goal
 
 parts_with : List NetInfo → List Tree → List Driver → List ℕ → Parts
 parts_with nets words drivers ports =
@@ -31,3 +32,8 @@ invariant_of-result c =
           c.in_ok-drivers.ensures c.in_ok-ports.ensures))
           (c.test_of_nets.ensures (λ b. b) (λ k. 8 + 8 * (last - k)) (chain last) (is_good last c.requires));
     }
+
+pub returns : goal.returns
+returns c =
+    same_parts c.args.last c.in_ok-nets.nets c.in_ok-words.words c.in_ok-drivers.drivers c.in_ok-ports.ports
+    c.in_ok-nets.ensures c.in_ok-words.ensures c.in_ok-drivers.ensures c.in_ok-ports.ensures

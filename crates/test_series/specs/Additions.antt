@@ -9,12 +9,7 @@ use Rattle.eq_net.specs.declared.types.Driver.{Driver}
 use Rattle.eq_net.specs.declared.types.Driver.TheVariants.{Input, Expr}
 use Rattle.eq_net.specs.Tree.{Tree, read, binary}
 use Rattle.eq_net.specs.Net.{Parts}
-use Rattle.measure_netlist.specs.Nested.{ranged}
-
--- f of each number below n
-abbrev pub listed : {A : Type 0} → (ℕ → A) → ℕ → List A
-listed f zero = []
-listed f (suc n) = listed f n ++ f n ∷ []
+use Rattle.test_series.specs.Lists.{listed, ranged}
 
 -- the bit of a number: 8 bits of the input, and then the bits of the output
 abbrev pub name : ℕ → BitName

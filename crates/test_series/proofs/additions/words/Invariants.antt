@@ -1,7 +1,8 @@
 use Rattle.std.proofs.Common.{◌≡◌}
 use Rattle.eq_net.specs.Tree.{trees_of}
-use Rattle.measure_netlist.specs.Chain.{link, listed}
-use Rattle.measure_netlist.proofs.chain.words.Given as goal
+use Rattle.test_series.specs.Additions.{link}
+use Rattle.test_series.specs.Lists.{listed}
+use Rattle.test_series.proofs.additions.words.Given as goal
 
 abbrev pub invariant-loop-number : goal.invariant-loop-number
 invariant-loop-number l = trees_of l.words ≡ listed (link l.last) l.number

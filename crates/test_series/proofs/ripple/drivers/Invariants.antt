@@ -1,0 +1,7 @@
+use Rattle.std.proofs.Common.{◌≡◌}
+use Rattle.test_series.specs.Lists.{listed}
+use Rattle.test_series.specs.Carries.{driver}
+use Rattle.test_series.proofs.ripple.drivers.Given as goal
+
+abbrev pub invariant-loop-bit : goal.invariant-loop-bit
+invariant-loop-bit l = l.drivers ≡ listed (driver l.width) l.bit

@@ -1,0 +1,7 @@
+use Rattle.std.proofs.Common.{◌≡◌, ◌+◌}
+use Rattle.test_series.specs.Lists.{listed}
+use Rattle.test_series.specs.Carries.{name}
+use Rattle.test_series.proofs.ripple.row.Given as goal
+
+abbrev pub invariant-loop-i : goal.invariant-loop-i
+invariant-loop-i l = l.names ≡ listed (λ i. name l.width (l.from + i)) l.i

@@ -1,0 +1,4 @@
+pub mod Additions
+pub mod Carries
+pub mod Lists
+pub mod Stages
