@@ -21,7 +21,7 @@ use Rattle.eq_part.specs.Plans.{IsPlanOf, plan_of}
 use Rattle.eq_part.specs.Tables.{holds}
 use Rattle.eq_cone.specs.declared.roots.Graphs.{Graphs}
 use Rattle.eq_cone.specs.declared.sides.Sides.{Sides}
-use Rattle.eq_cone.specs.Cut.{HasInputNames, HasOutputsOnce, IsGraphOfNet, inverted_count, partition_at}
+use Rattle.eq_cone.specs.Cut.{HasInputNames, IsGraphOfNet, inverted_count, partition_at}
 use Rattle.eq_cone.specs.Paired.{ArePaired, own_in_gate, own_in_gold, pair_of}
 use Rattle.eq_cone.specs.inner.Cones.{AreAscending, number_at}
 use Rattle.eq_cone.specs.inner.Steps.{IsBegun, IsCutOut}
@@ -51,7 +51,7 @@ module _ (gold_net gate_net : Net) (g : Graphs) (s : Sides) (paired : List (Opti
     (of_gold : IsGraphOfNet gold_net g.gold.now) (of_gate : IsGraphOfNet gate_net g.gate.now)
     (is_plan : IsPlanOf (parts_of gold_net) (parts_of gate_net) g.plan.now)
     (are : ArePaired g.gold.now g.gate.now g.plan.now paired) (lt : s.part < length g.plan.now.parts)
-    (once : HasOutputsOnce g.plan.now s.part) (gold_design : IsDesign (design_of (parts_of gold_net)))
+    (gold_design : IsDesign (design_of (parts_of gold_net)))
     (gate_design : IsDesign (design_of (parts_of gate_net))) (tables : AreTables g s paired) where
   positions : List ℕ
   positions = (partition_at g.plan.now s.part).outputs
@@ -126,7 +126,7 @@ module _ (gold_net gate_net : Net) (g : Graphs) (s : Sides) (paired : List (Opti
         one = record { gold = tables.gold; gate = tables.gate; pairs = tables.pairs };
         has_positions = λ i less. (within i less).0;
         few_positions = (
-            let r = few_distinct (partition_at g.plan.now s.part).outputs (length g.plan.now.pairs) once (λ m c. (
+            let r = few_distinct (partition_at g.plan.now s.part).outputs (length g.plan.now.pairs) (is_plan.outputs_once s.part) (λ m c. (
             let w = within c.0 c.1 in
             let at = place_in (partition_at g.plan.now s.part).outputs m c in
             let v = (within at.0 at.1).0 in
@@ -193,7 +193,7 @@ module _ (gold_net gate_net : Net) (g : Graphs) (s : Sides) (paired : List (Opti
       plain_gold signed_gate (record {
         within = within;
         each = λ i less held. has_some places i held;
-        once = λ o u lo lu same. one_place places once o u lo lu same;
+        once = λ o u lo lu same. one_place places (is_plan.outputs_once s.part) o u lo lu same;
       })
 
   pub node_copy : (part : Part) → IsCutOut gold_net.nets g s (partition_at g.plan.now s.part).outputs part →

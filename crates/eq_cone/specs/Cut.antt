@@ -1,5 +1,5 @@
 -- What a cut asks of graphs and plans, and how a part is named.
-use Rattle.std.specs.Prelude.{◌≡◌, ◌≢◌, ℕ, ◌<◌, ◌≤◌, List, [], false, AllPairs, length, count_by, slice_index_or}
+use Rattle.std.specs.Prelude.{◌≡◌, ℕ, ◌<◌, ◌≤◌, List, [], false, AllPairs, length, count_by, slice_index_or}
 use Rattle.eq_bits.specs.declared.node.Graph.{Graph}
 use Rattle.eq_bits.specs.declared.part.Part.{Part}
 use Rattle.eq_bits.specs.Node.{AreNodes}
@@ -10,7 +10,6 @@ use Rattle.eq_match.specs.Pairs.{pair_at}
 use Rattle.eq_net.specs.declared.net.Net.{Net}
 use Rattle.eq_net.specs.declared.types.NetInfo.{NetInfo}
 use Rattle.eq_net.specs.Naming.{name_of_bit}
-use Rattle.eq_net.specs.Net.{HasBit}
 use Rattle.eq_net.specs.Whole.{parts_of}
 use Rattle.eq_part.specs.declared.plan.Plan.{Plan}
 use Rattle.eq_part.specs.declared.types.Partition.{Partition}
@@ -28,14 +27,6 @@ partition_at plan q = slice_index_or plan.parts q no_part
 -- position o of a list of positions
 abbrev pub position_at : List ℕ → ℕ → ℕ
 position_at positions o = slice_index_or positions o 0
-
--- gold's bits of all pairs are there by name
-abbrev pub HasGoldBits : List NetInfo → Plan → Type 0
-HasGoldBits nets plan = (i : ℕ) → i < length plan.pairs → HasBit nets (pair_at plan.pairs i).gold
-
--- partition q has no output twice
-abbrev pub HasOutputsOnce : Plan → ℕ → Type 0
-HasOutputsOnce plan q = AllPairs (λ i j. i ≢ j) (partition_at plan q).outputs
 
 -- how many of the pairs at these positions are inverted
 abbrev pub inverted_count : List Pair → List ℕ → ℕ

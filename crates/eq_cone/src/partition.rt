@@ -7,7 +7,7 @@ ghost use Rattle.eq_bits.specs.Shared.{Shared};
 ghost use Rattle.eq_net.specs.Net.{system_of};
 ghost use Rattle.eq_net.specs.Whole.{parts_of};
 ghost use Rattle.eq_part.specs.Plans.{IsPlanOf, plan_of};
-ghost use Rattle.eq_cone.specs.Cut.{HasGoldBits, HasInputNames, HasOutputNames, HasOutputsOnce, IsGraphOfNet, inverted_count, partition_at};
+ghost use Rattle.eq_cone.specs.Cut.{HasInputNames, HasOutputNames, IsGraphOfNet, inverted_count, partition_at};
 ghost use Rattle.eq_cone.specs.Paired.{ArePaired};
 
 use crate::roots::Graphs;
@@ -37,8 +37,6 @@ pub fn cut(
     requires gold { IsGraphOfNet gold_net.now gold.now }
     requires gate { IsGraphOfNet gate_net.now gate.now }
     requires plan { IsPlanOf (parts_of gold_net.now) (parts_of gate_net.now) plan.now }
-    requires bits { HasGoldBits gold_net.now.nets plan.now }
-    requires outputs { HasOutputsOnce plan.now i }
     requires paired { ArePaired gold.now gate.now plan.now paired.now }
     requires part { i < length plan.now.parts }
     ensures denotes { IfOk result (λ part.

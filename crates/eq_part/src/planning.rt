@@ -18,7 +18,7 @@ ghost use Rattle.eq_part.specs.inner.Tabling.{AreOnceBelow};
 
 use crate::clashes::first_clash;
 use crate::dividing::divide;
-use crate::laws::{matched_pairs_are_few, plans_cover};
+use crate::laws::{matched_pairs_are_few, outputs_stand_in_order, plans_cover};
 use crate::limits::MOST_PARTITIONS;
 use crate::plan::{PairedBits, Plan};
 use crate::tables::{gate_names, gold_names, numbers, owners, paired_bits};
@@ -61,6 +61,7 @@ fn plan(
     matched_pairs_are_few();
     plans_cover();
     classes_divide();
+    outputs_stand_in_order();
     let in_gold = gold_names(alloc, pairs.as_slice())?;
     let in_gate = gate_names(alloc, pairs.as_slice())?;
     let gold = side(alloc, gold, in_gold.as_slice())?;

@@ -48,7 +48,11 @@ cut_out-requires-clause-begun c =
     let gate_design = c.net_is_design.ensures (parts_of c.args.gate_net.now) c.args.gate_net.now.is_net in
     let P : Partition → Type 0 = λ p. IsBegun g s p.outputs in
     subst P (sym is) (is_begun c.args.gold_net.now c.args.gate_net.now g s c.args.paired.now c.requires.gold
-    c.requires.gate c.requires.plan c.requires.paired c.requires.part c.requires.outputs gold_design gate_design tables)
+    c.requires.gate c.requires.plan c.requires.paired c.requires.part gold_design gate_design tables)
+
+-- the plan has gold's bits by name
+pub cut_out-requires-clause-bits : goal.cut_out-requires-clause-bits
+cut_out-requires-clause-bits c = c.requires.plan.gold_there
 
 pub returns-clause-inputs : goal.returns-clause-inputs
 returns-clause-inputs c =
@@ -78,7 +82,7 @@ returns-clause-inputs c =
     (λ part cut. (
     let R : Partition → Type 0 = λ p. IsCutOut c.args.gold_net.now.nets g s p.outputs part in
     part_inputs c.args.gold_net.now c.args.gate_net.now g s c.args.paired.now c.requires.gold c.requires.gate
-    c.requires.plan c.requires.paired c.requires.part c.requires.outputs gold_design gate_design tables part
+    c.requires.plan c.requires.paired c.requires.part gold_design gate_design tables part
     (subst R is cut))) c.cut_out.ensures.ok
 
 pub returns-clause-bound : goal.returns-clause-bound
@@ -110,7 +114,7 @@ returns-clause-bound c =
     (λ part cut. (
     let R : Partition → Type 0 = λ p. IsCutOut c.args.gold_net.now.nets g s p.outputs part in
     part_bound c.args.gold_net.now c.args.gate_net.now g s c.args.paired.now c.requires.gold c.requires.gate
-    c.requires.plan c.requires.paired c.requires.part c.requires.outputs gold_design gate_design tables part
+    c.requires.plan c.requires.paired c.requires.part gold_design gate_design tables part
     (subst R is cut))) c.cut_out.ensures.ok
 
 pub returns-clause-denotes : goal.returns-clause-denotes
@@ -154,5 +158,5 @@ returns-clause-denotes c =
     (holds c.args.plan.now.parts c.args.i) c.requires.plan.covers.one_to_one (meaning part)
     (c.part_is_one.ensures part)
     (node_copy c.args.gold_net.now c.args.gate_net.now g s c.args.paired.now c.requires.gold c.requires.gate
-    c.requires.plan c.requires.paired c.requires.part c.requires.outputs gold_design gate_design tables part
+    c.requires.plan c.requires.paired c.requires.part gold_design gate_design tables part
     (subst R is cut)))) c.cut_out.ensures.ok

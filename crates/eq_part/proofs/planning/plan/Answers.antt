@@ -1,4 +1,4 @@
-use Rattle.std.proofs.Common.{◌≡◌, ℕ, ◌<◌, List, Option, length, map, ap, subst, sym, ◌∙◌}
+use Rattle.std.proofs.Common.{◌≡◌, ℕ, ◌<◌, List, Option, length, map, ap, subst, sym, ◌∙◌, arith}
 use Rattle.std.specs.List.{All}
 use Rattle.std.proofs.lemmas.List.{length-map}
 use Rattle.eq_names.specs.declared.BitName.{BitName}
@@ -128,6 +128,13 @@ returns-clause-plan c =
           c.as_slice-5.ensures c.as_slice-6.ensures c.in_ok-owners.ensures;
     } in
     record {
+      gold_there = c.requires.matched.gold_there;
+      outputs_once = λ q i j d less within. λ same. omega (
+        arith,
+        same,
+        c.outputs_stand_in_order.ensures.outputs (length pairs) (is_held pairs) (one_leader leaders) parts
+            c.requires.classes.1 q i j d less within,
+      );
       gold_numbers = in_gold;
       gate_numbers = in_gate;
       gold_table = c.in_ok-gold.ensures.table;
