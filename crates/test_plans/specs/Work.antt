@@ -1,9 +1,9 @@
 -- What is needed to decide the partitions of a plan.
-use Rattle.std.specs.Prelude.{ℕ, ◌<◌, ◌≤◌, [], length}
+use Rattle.std.specs.Prelude.{◌≤◌, [], length}
 use Rattle.eq_net.specs.Whole.{parts_of}
 use Rattle.eq_part.specs.Plans.{IsPlanOf}
 use Rattle.eq_config.specs.declared.limits.TheConstants.{MOST_STRATEGIES}
-use Rattle.eq_cone.specs.Cut.{HasGoldBits, HasOutputsOnce, IsGraphOfNet}
+use Rattle.eq_cone.specs.Cut.{IsGraphOfNet}
 use Rattle.eq_cone.specs.Paired.{ArePaired}
 use Rattle.eq_compose.specs.declared.types.Verdict.{Verdict}
 use Rattle.eq_compose.specs.declared.types.Verdict.TheVariants.{Proved, Fail, Unknown}
@@ -16,8 +16,6 @@ pub record IsWork (w : Work) : Type 0 where
   pub gold : IsGraphOfNet w.gold.now w.gold_graph.now
   pub gate : IsGraphOfNet w.gate.now w.gate_graph.now
   pub plan : IsPlanOf (parts_of w.gold.now) (parts_of w.gate.now) w.plan.now
-  pub bits : HasGoldBits w.gold.now.nets w.plan.now
-  pub outputs : (q : ℕ) → q < length w.plan.now.parts → HasOutputsOnce w.plan.now q
   pub paired : ArePaired w.gold_graph.now w.gate_graph.now w.plan.now w.paired.now
   pub few : length w.strategies.now ≤ MOST_STRATEGIES
 

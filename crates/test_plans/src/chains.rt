@@ -5,9 +5,9 @@ ghost use Rattle.eq_net.specs.Tree.{tree_of, trees_of};
 ghost use Rattle.test_plans.specs.Chains as spec;
 ghost use Rattle.test_plans.specs.Designs.{none as nothing, with_port};
 
-use crate::designs::{none, push_port};
+use crate::designs::{design, none, push_port};
+use crate::tables::wires::{BRANCHES, LINE, SHORTER};
 use crate::types::{Draft, Wire};
-use crate::wires::{BRANCHES, LINE, SHORTER};
 use eq_net::laws::test_of_nets;
 use eq_net::{BitName, BitNames, Dir, Driver, Name, Net, NetInfo, Word, Words};
 use std::alloc::Global;
@@ -112,5 +112,14 @@ pub fn chain(alloc: Global, number: u8) -> Result<Net, Fail> {
         3 => wired(alloc, &LINE),
         5 => wired(alloc, &SHORTER),
         _ => wired(alloc, &BRANCHES),
+    }
+}
+
+/// A netlist by its number: the first three are designs of signals, the others chains.
+pub fn netlist(alloc: Global, number: u8) -> Result<Net, Fail> {
+    if number < 3 {
+        design(alloc, number)
+    } else {
+        chain(alloc, number)
     }
 }

@@ -1,6 +1,6 @@
 //! Two netlists and a configuration, through all layers to a verdict on the designs.
 
-ghost use Rattle.std.specs.Prelude.{◌≡◌, ℕ, ◌<◌, ◌^◌, IfOk, IfSome, length};
+ghost use Rattle.std.specs.Prelude.{◌≡◌, ◌<◌, ◌^◌, IfOk, IfSome, length};
 ghost use Rattle.eq_compose.specs.Rows.{AreRight, AreRowsOf};
 ghost use Rattle.eq_compose.specs.declared.types.Whole.TheVariants.{Pass};
 ghost use Rattle.eq_config.specs.Configs.{IsConfig};
@@ -8,21 +8,16 @@ ghost use Rattle.eq_match.specs.Seen.{HaveSamePorts};
 ghost use Rattle.eq_model.specs.Run.{Equivalent};
 ghost use Rattle.eq_net.specs.Net.{design_of};
 ghost use Rattle.eq_net.specs.Whole.{parts_of};
-ghost use Rattle.eq_part.specs.Plans.{IsPlanOf};
-ghost use Rattle.eq_cone.specs.Cut.{HasGoldBits, HasOutputsOnce};
 ghost use Rattle.test_plans.specs.Work.{IsWork};
 
+use crate::planning::plan;
 use crate::row::{Work, row};
 use eq_blast::blast;
 use eq_compose::{Rows, Whole, conclude};
 use eq_cone::laws::tables_fit;
 use eq_cone::paired_nodes;
 use eq_config::Config;
-use eq_match::laws::pairs_are_matched;
-use eq_match::{groups, pairs};
 use eq_net::Net;
-use eq_part::laws::{gold_bits_are_there, matched_pairs_are_few, outputs_stand_in_order};
-use eq_part::{Plan, partitions};
 use std::alloc::Global;
 use std::test::Fail;
 
@@ -42,29 +37,6 @@ fn rows(alloc: Global, work: &Work<'_>) -> Result<Option<Rows>, Fail>
         }
     }
     Ok(Some(rows))
-}
-
-/// The plan of two netlists, if they have one.
-fn plan(alloc: Global, gold: &Net, gate: &Net, config: &Config) -> Result<Option<Plan>, Fail>
-    requires ports { HaveSamePorts (parts_of gold.now) (parts_of gate.now) }
-    requires config { IsConfig config.now }
-    ensures plan { IfOk result (λ found. IfSome found
-        (IsPlanOf (parts_of gold.now) (parts_of gate.now))) }
-    ensures bits { IfOk result (λ found. IfSome found (HasGoldBits gold.now.nets)) }
-    ensures once { IfOk result (λ found. IfSome found (λ plan. (q : ℕ) →
-        q < length plan.parts → HasOutputsOnce plan q)) }
-    ensures few { IfOk result (λ found. IfSome found (λ plan. length plan.parts < 2 ^ 31)) }
-{
-    pairs_are_matched();
-    matched_pairs_are_few();
-    gold_bits_are_there();
-    outputs_stand_in_order();
-    let pairs = pairs(alloc, gold, gate, config)?;
-    let groups = groups(alloc, gold, &pairs, config)?;
-    match partitions(alloc, gold, gate, pairs, groups, config) {
-        Ok(plan) => Ok(Some(plan)),
-        Err(_) => Ok(None),
-    }
 }
 
 /// What is said of two netlists with the same ports, if they have a plan and no strategy is too deep for a part.

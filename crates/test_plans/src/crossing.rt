@@ -40,7 +40,7 @@ const WIRES: [Wire; 3] = [
     },
 ];
 
-fn binary(alloc: Global, op: WordOp, left: Word, right: Word) -> Result<Word, Fail>
+pub fn binary(alloc: Global, op: WordOp, left: Word, right: Word) -> Result<Word, Fail>
     ensures { IfOk result (λ word. tree_of word ≡ binary_tree op (tree_of left) (tree_of right)) }
 {
     let left = Boxed::new(alloc, left)?;

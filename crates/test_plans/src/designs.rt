@@ -4,7 +4,7 @@ ghost use Rattle.std.specs.Prelude.{◌≡◌, ◌++◌, ◌<◌, ◌^◌, [], �
 ghost use Rattle.eq_net.specs.Tree.{trees_of};
 ghost use Rattle.test_plans.specs.Designs as spec;
 
-use crate::signals::{GATE, GOLD, TWO};
+use crate::tables::signals::{GATE, GOLD, TWO};
 use crate::types::{Draft, Signal};
 use eq_net::laws::test_of_nets;
 use eq_net::{Bits, Dir, Driver, Drivers, Name, Net, NetInfo, NetInfos, NetNumbers, Word, Words};

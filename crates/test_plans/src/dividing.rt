@@ -5,11 +5,10 @@ ghost use Rattle.eq_config.specs.Configs.{IsConfig};
 ghost use Rattle.eq_net.specs.Whole.{parts_of};
 ghost use Rattle.eq_part.specs.Partitions.{HaveGoldBits};
 
-use crate::chains::chain;
+use crate::cases::partitions::{Part, ROWS, Row};
+use crate::chains::netlist;
 use crate::configs::config;
-use crate::designs::design;
 use crate::pairing::paired;
-use crate::part_rows::{Part, ROWS, Row};
 use eq_config::Config;
 use eq_match::laws::templates_fit;
 use eq_match::{Pairs, groups};
@@ -53,14 +52,6 @@ fn are_parts(parts: &[Partition], wanted: &[Part]) -> bool {
         }
     }
     true
-}
-
-fn netlist(alloc: Global, number: u8) -> Result<Net, Fail> {
-    if number < 3 {
-        design(alloc, number)
-    } else {
-        chain(alloc, number)
-    }
 }
 
 fn is_right(alloc: Global, row: &Row) -> Result<bool, Fail> {

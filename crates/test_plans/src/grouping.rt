@@ -3,9 +3,9 @@
 ghost use Rattle.std.specs.Prelude.{◌≡◌, ◌<◌, ◌^◌, All, IfOk, length};
 ghost use Rattle.eq_config.specs.Configs.{IsConfig};
 
+use crate::cases::groups::{ROWS, Row};
 use crate::configs::config;
 use crate::designs::design;
-use crate::group_rows::{ROWS, Row};
 use crate::pairing::paired;
 use eq_config::Config;
 use eq_match::{Groups, Positions, groups};

@@ -5,9 +5,9 @@ ghost use Rattle.eq_config.specs.Configs.{IsConfig};
 ghost use Rattle.eq_net.specs.Whole.{parts_of};
 ghost use Rattle.eq_part.specs.Partitions.{HaveGoldBits};
 
+use crate::cases::pairs::{NetPair, ROWS, Row};
 use crate::configs::config;
 use crate::designs::design;
-use crate::pair_rows::{NetPair, ROWS, Row};
 use crate::ports::have_same_ports;
 use eq_config::Config;
 use eq_match::laws::pairs_are_matched;

@@ -1,6 +1,6 @@
-//! Signals, and a netlist that is being made.
+//! Signals, wires and cells, and a netlist that is being made.
 
-use eq_net::{Dir, Drivers, NetInfos, NetNumbers};
+use eq_net::{Dir, Drivers, NetInfos, NetNumbers, WordOp};
 
 /// A net. An input comes from outside; another net has the value 0 where it is driven.
 #[derive(Clone, Copy)]
@@ -31,5 +31,37 @@ pub struct Wire {
     pub auto: bool,
     pub reads: u32,
     pub register: bool,
+    pub rank: u32,
+}
+
+/// A word without a choice: constant bits, all bits of a net of so many, their negations, or the sum of their number and of
+/// constant bits.
+#[derive(Clone, Copy)]
+pub enum Arg {
+    Bits(&'static [bool]),
+    Net(u32, u32),
+    Not(u32, u32),
+    Sum(u32, u32, &'static [bool]),
+}
+
+/// A word of up to three others.
+#[derive(Clone, Copy)]
+pub enum Form {
+    One(Arg),
+    Two(WordOp, Arg, Arg),
+    NotTwo(WordOp, Arg, Arg),
+    Choice(Arg, Arg, Arg),
+}
+
+/// A net that a word drives, within the cycle or as a register's next value, unless it is an input. What a word reads stands
+/// at lower ranks, where registers and inputs stand at rank 0.
+#[derive(Clone, Copy)]
+pub struct Cell {
+    pub name: &'static [u8],
+    pub width: u32,
+    pub dir: Dir,
+    pub auto: bool,
+    pub register: bool,
+    pub word: Form,
     pub rank: u32,
 }

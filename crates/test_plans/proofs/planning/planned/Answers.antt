@@ -1,7 +1,5 @@
-use Rattle.std.proofs.Common.{length, arith}
-use Rattle.eq_match.specs.Groups.{is_held}
 use Rattle.eq_net.specs.Whole.{parts_of}
-use Rattle.test_plans.proofs.comparing.plan.Goals as goal
+use Rattle.test_plans.proofs.planning.planned.Goals as goal
 
 pub groups-requires-clause-there : goal.groups-requires-clause-there
 groups-requires-clause-there c k d lt =
@@ -20,12 +18,3 @@ groups-requires-clause-few c =
     let matched = c.pairs_are_matched.ensures (parts_of gold) (parts_of gate) c.args.config.now pairs gold.is_net
     gate.is_net c.requires.ports c.in_ok-pairs.ensures.ok in
     (c.matched_pairs_are_few.ensures (parts_of gold) (parts_of gate) pairs gold.is_net matched).few
-
-pub returns-in-Ok-clause-once : goal.returns-in-Ok-clause-once
-returns-in-Ok-clause-once c q there i j d less within =
-    let pairs = c.in_ok-pairs.pairs in
-    let plan = c.in-Ok.plan in
-    let parts = c.in-Ok.ensures.ok in
-    let order = c.outputs_stand_in_order.ensures.outputs (length pairs) (is_held pairs) parts.division.together plan.parts
-    parts.outputs_are q i j d less within in
-    λ same. omega arith

@@ -1,0 +1,151 @@
+//! Parts with registers, or of netlists with them: netlists, lines of a configuration, and the nodes.
+
+use crate::cases::wanted::{Row, Wanted};
+use eq_bits::Node::{And, Buf, Const, Input, Mux, Not, Reg, Xor};
+
+pub const ROWS: [Row; 4] = [
+    // a counter that gate doesn't have: no input, and next values are followed. Constants are shared
+    (
+        16,
+        17,
+        b"",
+        0,
+        Wanted {
+            name: b"y",
+            inputs: &[],
+            nodes: &[
+                Reg {
+                    next: 12,
+                    init: false,
+                },
+                Reg {
+                    next: 15,
+                    init: false,
+                },
+                Const(false),
+                Const(true),
+                Xor(0, 2),
+                Not(4),
+                And(3, 5),
+                Xor(1, 3),
+                Not(7),
+                And(6, 8),
+                Buf(9),
+                Xor(0, 3),
+                Xor(2, 11),
+                Mux(11, 2, 0),
+                Xor(1, 2),
+                Xor(13, 14),
+                Buf(2),
+            ],
+            outputs: &[(b"y", 10, 16)],
+        },
+    ),
+    // two registers of one name and one first value stay apart
+    (
+        18,
+        19,
+        b"",
+        0,
+        Wanted {
+            name: b"q",
+            inputs: &[b"en.q"],
+            nodes: &[
+                Input(0),
+                Reg {
+                    next: 16,
+                    init: false,
+                },
+                Reg {
+                    next: 17,
+                    init: false,
+                },
+                Const(false),
+                Const(true),
+                Xor(1, 4),
+                Xor(3, 5),
+                Buf(6),
+                Mux(5, 3, 1),
+                Xor(2, 3),
+                Xor(8, 9),
+                Buf(10),
+                Not(3),
+                Not(0),
+                And(12, 13),
+                Not(14),
+                Mux(15, 7, 1),
+                Mux(15, 11, 2),
+                Reg {
+                    next: 23,
+                    init: false,
+                },
+                Reg {
+                    next: 28,
+                    init: false,
+                },
+                Xor(4, 18),
+                Xor(3, 20),
+                Mux(15, 21, 18),
+                Buf(22),
+                Mux(20, 3, 18),
+                Xor(3, 19),
+                Xor(24, 25),
+                Mux(15, 26, 19),
+                Buf(27),
+            ],
+            outputs: &[(b"q[0]", 1, 18), (b"q[1]", 2, 19)],
+        },
+    ),
+    (
+        18,
+        19,
+        b"",
+        1,
+        Wanted {
+            name: b"en.q",
+            inputs: &[b"en"],
+            nodes: &[Input(0), Buf(0), Buf(0)],
+            outputs: &[(b"en.q", 1, 2)],
+        },
+    ),
+    // where a line parts the register's bits, one reads the other as an input
+    (
+        18,
+        19,
+        b"[collect]\nsolo q\n",
+        1,
+        Wanted {
+            name: b"q[1]",
+            inputs: &[b"q[0]", b"en.q"],
+            nodes: &[
+                Input(0),
+                Input(1),
+                Reg {
+                    next: 14,
+                    init: false,
+                },
+                Const(false),
+                Const(true),
+                Xor(0, 4),
+                Mux(5, 3, 0),
+                Xor(2, 3),
+                Xor(6, 7),
+                Buf(8),
+                Not(3),
+                Not(1),
+                And(10, 11),
+                Not(12),
+                Mux(13, 9, 2),
+                Reg {
+                    next: 19,
+                    init: false,
+                },
+                Xor(3, 15),
+                Xor(6, 16),
+                Mux(13, 17, 15),
+                Buf(18),
+            ],
+            outputs: &[(b"q[1]", 2, 15)],
+        },
+    ),
+];
