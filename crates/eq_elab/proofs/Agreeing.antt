@@ -18,7 +18,7 @@ use Rattle.eq_elab.specs.Costs.{cost, unary_cost}
 use Rattle.eq_elab.specs.inner.Rendering.{Makes, SameNames}
 
 module _ (s r : Scope) where
-  own_same : (e : ExprTree) → SameNames s r e → own s e ≡ own r e
+  pub own_same : (e : ExprTree) → SameNames s r e → own s e ≡ own r e
   own_same (const c) h = refl
   own_same (net n) h = ap range_width h.0
   own_same (bit n i) h = refl
@@ -41,7 +41,7 @@ module _ (s r : Scope) where
       right_size s op a b w ≡ right_size r op a b w
   right_same op a b w h = ap₂ (right_sized (sizing op) w) (own_same a h.0) (own_same b h.1)
 
-  wire_same : (e : ExprTree) → SameNames s r e → (j : ℕ) → wire s e j ≡ wire r e j
+  pub wire_same : (e : ExprTree) → SameNames s r e → (j : ℕ) → wire s e j ≡ wire r e j
   wire_same (const c) h j = refl
   wire_same (net n) h j = ap₂ (λ o f. cond (nat_lt j (range_width o)) (Some (f + (0 + j))) None) h.0 h.1
   wire_same (bit n i) h j = ap₂ (λ o f. cond (nat_lt j 1) (Some (f + (position o i + j))) None) h.0 h.1

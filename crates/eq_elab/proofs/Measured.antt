@@ -5,7 +5,7 @@ use Rattle.eq_elab.specs.Trees.{ExprTree, expr_tree, join_all}
 use Rattle.eq_elab.specs.Scopes.{Scope}
 use Rattle.eq_elab.specs.Sizes.{own}
 use Rattle.eq_elab.specs.ModuleRefusals.{most_size}
-use Rattle.eq_elab.specs.inner.Measuring.{IsSmall}
+use Rattle.eq_elab.specs.inner.Measuring.{AllSmall, IsSmall}
 
 -- each part of a small concatenation is small
 pub small_part : (s : Scope) (es : List Expr) (k : ℕ) (e : Expr) → k < length es → e ≡ slice_index_or es k e →
@@ -13,6 +13,18 @@ pub small_part : (s : Scope) (es : List Expr) (k : ℕ) (e : Expr) → k < lengt
 small_part s [] k e lt is h = absurd (omega arith)
 small_part s (x ∷ xs) zero e lt is h = subst (λ y. IsSmall s (expr_tree y)) (sym is) h.1
 small_part s (x ∷ xs) (suc k) e lt is h = small_part s xs k e (omega arith) is h.2
+
+-- all parts of a small concatenation are small
+pub all_small : (s : Scope) (ts : List ExprTree) → IsSmall s (join_all ts) → AllSmall s ts
+all_small s [] h = tt
+all_small s (t ∷ ts) h = (h.1, all_small s ts h.2)
+
+-- each of those that are small
+pub small_at : (s : Scope) (es : List Expr) (k : ℕ) (e : Expr) → k < length es → e ≡ slice_index_or es k e →
+    AllSmall s (map expr_tree es) → IsSmall s (expr_tree e)
+small_at s [] k e lt is h = absurd (omega arith)
+small_at s (x ∷ xs) zero e lt is h = subst (λ y. IsSmall s (expr_tree y)) (sym is) h.0
+small_at s (x ∷ xs) (suc k) e lt is h = small_at s xs k e (omega arith) is h.1
 
 -- no part and no rest of it is larger than it
 pub small_join : (s : Scope) (ts : List ExprTree) → IsSmall s (join_all ts) → own s (join_all ts) ≤ most_size

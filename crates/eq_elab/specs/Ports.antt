@@ -1,11 +1,14 @@
 -- When two designs can be compared: they have the same ports, and a clock that both take as one.
-use Rattle.std.specs.Prelude.{ℕ, zero, suc, List, [], ◌∷◌, Bool, true, false, not, ◌==◌, if◌then◌else◌, Option, Some, None, option_map, find, bytes_eq}
+use Rattle.std.specs.Prelude.{◌≡◌, ◌≢◌, ◌<◌, ◌⊎◌, Result, Err, ℕ, zero, suc, length, List, [], ◌∷◌, Bool, true, false, not, ◌==◌, if◌then◌else◌, Option, Some, None, option_map, find, bytes_eq}
 use Rattle.eq_model.specs.Nets.{NetName, Net, net_width}
 use Rattle.eq_model.specs.Run.{Design, dir}
+use Rattle.eq_net.specs.declared.types.Dir.TheVariants.{Inner}
 use Rattle.eq_net.specs.Meaning.{if_there}
+use Rattle.eq_net.specs.Net.{Parts, net_at}
+use Rattle.eq_net.specs.Nets.{width_of}
 use Rattle.eq_net.specs.Numbers.{differ}
 use Rattle.eq_elab.specs.declared.ports.PortErr.{PortErr}
-use Rattle.eq_elab.specs.declared.ports.PortErr.TheVariants.{Missing, Direction, Width, Clock}
+use Rattle.eq_elab.specs.declared.ports.PortErr.TheVariants.{Missing, Direction, Width, Clock, Memory}
 use Rattle.eq_elab.specs.Declarations.{has, comes_in, goes_out}
 use Rattle.eq_elab.specs.Nets.{offset}
 use Rattle.eq_elab.specs.Clocks.{takes_as_data}
@@ -52,3 +55,13 @@ port_fault gold gate = first_of (
     ∷ if_there None (λ c. option_map Clock (first_port (bytes_eq c) gold.ports))
     (clock_clash gold gate gold.clock gate.clock)
     ∷ [])
+
+-- this answer, but for want of memory
+abbrev pub IsPortAnswer : Result (Unit {0}) PortErr → Result (Unit {0}) PortErr → Type 0
+IsPortAnswer result answer = (result ≡ answer) ⊎ (result ≡ Err Memory)
+
+-- each port of one netlist is a port of the other, of the same name, direction and width
+abbrev pub HasEachPortOf : Parts → Parts → Type 0
+HasEachPortOf n m = (k : ℕ) → k < length n.nets → (net_at n.nets k).dir ≢ Inner → (h : ℕ) × (h < length m.nets) ×
+    ((net_at m.nets h).name ≡ (net_at n.nets k).name) × ((net_at m.nets h).dir ≡ (net_at n.nets k).dir) ×
+    (width_of (net_at n.nets k) ≡ width_of (net_at m.nets h))

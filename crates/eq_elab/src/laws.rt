@@ -15,12 +15,14 @@ ghost use Rattle.eq_vparse.specs.declared.tree.Stmt.{Stmt};
 ghost use Rattle.eq_vparse.specs.declared.tree.Stmt.TheVariants.{Empty, Set};
 ghost use Rattle.eq_vparse.specs.declared.tree.Stmt.TheViews.{Block, If};
 ghost use Rattle.eq_net.specs.Meaning.{if_there};
+ghost use Rattle.eq_net.specs.Net.{IsNet, Parts, design_of as meaning_of};
 ghost use Rattle.eq_elab.specs.Trees.{Name, Range, ModuleTree, const, net, bit, part, repeated, unary, binary, choice, join_all, expr_tree, target_tree, idle, set, branch, in_sequence, stmt_tree};
 ghost use Rattle.eq_elab.specs.Scopes.{index_at, is_inside, position};
 ghost use Rattle.eq_elab.specs.Declarations.{has, nets_in};
 ghost use Rattle.eq_elab.specs.Hierarchy.{Path, module_named};
 ghost use Rattle.eq_elab.specs.Nets.{alone, full_names, nets_at, nets_of, offset};
 ghost use Rattle.eq_elab.specs.Costs.{cost_below, design_cost};
+ghost use Rattle.eq_elab.specs.Ports.{HasEachPortOf, port_fault};
 ghost use Rattle.eq_elab.specs.Firsts.{first_again};
 ghost use Rattle.eq_elab.specs.Depending.{DriverDepends};
 ghost use Rattle.eq_elab.specs.Designs.{Flat, driver_of};
@@ -99,4 +101,13 @@ pub fn offsets_by_path()
 pub fn cost_by_modules()
     ensures { (all : List ModuleTree) (top : Name) → design_cost all top ≡
         1 + if_there 0 (cost_below all (length all)) (module_named all top) }
+{}
+
+/// Where nothing is wrong with the ports, each netlist has each port of the other, which is what pairs of their bits ask for.
+/// The proof stands in proofs/SamePorts.antt.
+pub fn ports_that_fit()
+    ensures gold { (gold gate : Parts) → IsNet gold → IsNet gate →
+        port_fault (meaning_of gold) (meaning_of gate) ≡ None → HasEachPortOf gold gate }
+    ensures gate { (gold gate : Parts) → IsNet gold → IsNet gate →
+        port_fault (meaning_of gold) (meaning_of gate) ≡ None → HasEachPortOf gate gold }
 {}

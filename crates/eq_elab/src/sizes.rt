@@ -38,7 +38,7 @@ pub fn sizing_of(op: BinOp) -> Sizing
 }
 
 /// The size of a result whose operand has so many bits by itself.
-fn unary_own(op: UnOp, size: u32) -> u32
+pub fn unary_own(op: UnOp, size: u32) -> u32
     ensures { result ≡ spec.unary_own (spec.unary_form op) size }
 {
     match op {

@@ -6,7 +6,7 @@ ghost use Rattle.eq_elab.specs.Trees as tree;
 ghost use Rattle.eq_elab.specs.Trees.{expr_tree, join_all};
 ghost use Rattle.eq_elab.specs.Sizes as sizes;
 ghost use Rattle.eq_elab.specs.inner.Finding.{scope_of};
-ghost use Rattle.eq_elab.specs.inner.Measuring.{IsFit, IsSmall};
+ghost use Rattle.eq_elab.specs.inner.Measuring.{AllSmall, IsFit, IsSmall};
 ghost use Rattle.eq_elab.specs.inner.Rendering.{Makes, MakesAll};
 
 use crate::forms::{binary, choice, constant, extended, pick, unary, word_op};
@@ -19,7 +19,7 @@ use eq_vparse::{Expr, UnOp};
 use std::alloc::{AllocError, Global};
 
 /// Makes a word one of the words, and tells its number.
-fn add_word(word: Word, words: &mut Words) -> Result<u32, Memory>
+pub fn add_word(word: Word, words: &mut Words) -> Result<u32, Memory>
     ensures number { IfOk result (λ number. number ≡ length words.old) }
     ensures added { OnOk result (words.new ≡ words.old ++ word ∷ []) }
 {
@@ -29,6 +29,16 @@ fn add_word(word: Word, words: &mut Words) -> Result<u32, Memory>
         Ok(number as u32)
     } else {
         Err(AllocError)
+    }
+}
+
+/// A count that a word can have.
+pub fn narrow(count: usize) -> Result<u32, Memory>
+    ensures { IfOk result (λ n. n ≡ count) }
+{
+    match u32::try_from(count) {
+        Ok(narrow) => Ok(narrow),
+        Err(_) => Err(AllocError),
     }
 }
 
@@ -116,7 +126,7 @@ fn concat_word(
 
 /// The words of the parts of a concatenation, each by itself.
 #[cycle(words)]
-fn part_words(
+pub fn part_words(
     alloc: Global,
     parts: &[Expr],
     nets: &[NetInfo],
@@ -126,8 +136,7 @@ fn part_words(
 ) -> Result<Words, Memory>
     requires room { from + length names.now < 2 ^ 32 }
     requires fit { IsFit nets.now names.now from (join_all (map expr_tree parts.now)) }
-    requires small { IsSmall (scope_of nets.now names.now from)
-        (join_all (map expr_tree parts.now)) }
+    requires small { AllSmall (scope_of nets.now names.now from) (map expr_tree parts.now) }
     ensures { IfOk result (λ made.
         MakesAll nets.now (scope_of nets.now names.now from) (map expr_tree parts.now)
         (trees_of words.old) (trees_of words.new) (trees_of made)) }

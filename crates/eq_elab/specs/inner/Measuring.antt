@@ -1,7 +1,7 @@
 -- Cited by proofs alone; nothing here has to be believed.
 -- What is asked of an expression before it becomes a word: its names have nets, its selects lie in their nets' ranges, and
 -- no part of it has more bits than an expression may have.
-use Rattle.std.specs.Prelude.{◌≡◌, ℕ, ◌<◌, ◌≤◌, List, length, true}
+use Rattle.std.specs.Prelude.{◌≡◌, ℕ, ◌<◌, ◌≤◌, List, [], ◌∷◌, length, true}
 use Rattle.eq_net.specs.declared.types.NetInfo.{NetInfo}
 use Rattle.eq_elab.specs.Trees.{Name, ExprTree, const, net, bit, part, empty, joined, repeated, unary, binary, choice}
 use Rattle.eq_elab.specs.Scopes.{Scope, is_select, span, width}
@@ -30,6 +30,11 @@ IsSmall s (repeated n a) = (own s (repeated n a) ≤ most_size) × IsSmall s a
 IsSmall s (unary op a) = IsSmall s a
 IsSmall s (binary op a b) = IsSmall s a × IsSmall s b
 IsSmall s (choice c a b) = IsSmall s c × IsSmall s a × IsSmall s b
+
+-- no part of any of these has too many bits
+abbrev pub AllSmall : Scope → List ExprTree → Type 0
+AllSmall s [] = Unit {0}
+AllSmall s (e ∷ es) = IsSmall s e × AllSmall s es
 
 -- the net that each name stands for here is there, and each select lies in its range
 abbrev pub IsFit : List NetInfo → List Name → ℕ → ExprTree → Type 0

@@ -6,5 +6,5 @@ use Rattle.eq_elab.proofs.naming.+exprs.Given as goal
 
 abbrev pub invariant-add_exprs-loop-part : goal.invariant-add_exprs-loop-part
 invariant-add_exprs-loop-part l =
-    with_names l.table (names_in (join_all (map expr_tree (drop l.part-index l.parts))))
-    ≡ with_names l.fn.table (names_in (join_all (map expr_tree l.parts)))
+    with_names l.found.table (names_in (join_all (map expr_tree (drop l.part-index l.parts))))
+    ≡ with_names l.fn.found.table (names_in (join_all (map expr_tree l.parts)))

@@ -7,6 +7,6 @@ use Rattle.eq_elab.proofs.naming.+stmts.Given as goal
 
 abbrev pub invariant-add_stmts-loop-stmt : goal.invariant-add_stmts-loop-stmt
 invariant-add_stmts-loop-stmt l =
-    with_names l.table
+    with_names l.found.table
     (flat_map names_of_whole (wholes_of_stmt (in_sequence (map stmt_tree (drop l.stmt-index l.all)))))
-    ≡ with_names l.fn.table (flat_map names_of_whole (wholes_of_stmt (in_sequence (map stmt_tree l.all))))
+    ≡ with_names l.fn.found.table (flat_map names_of_whole (wholes_of_stmt (in_sequence (map stmt_tree l.all))))

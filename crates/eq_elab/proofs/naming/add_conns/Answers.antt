@@ -12,7 +12,7 @@ use Rattle.eq_elab.proofs.naming.add_conns.Goals as goal
 
 pub returns-in-ByOrder : goal.returns-in-ByOrder
 returns-in-ByOrder c =
-    subst (λ (ns : List Name). OnOk c.add_maybes.result (c.add_maybes.new.table ≡ with_names c.args.table.now ns))
+    subst (λ (ns : List Name). OnOk c.add_maybes.result (c.add_maybes.new.found.table ≡ with_names c.args.found.now.table ns))
     (ap (λ (es : List (Option Expr)). flat_map (λ e. if_there [] names_in (option_map expr_tree e))
     es) c.as_slice.ensures
     ∙ by_order_names c.in-ByOrder.all
@@ -22,7 +22,7 @@ returns-in-ByOrder c =
 
 pub returns-in-ByName : goal.returns-in-ByName
 returns-in-ByName c =
-    subst (λ (ns : List Name). OnOk c.add_named.result (c.add_named.new.table ≡ with_names c.args.table.now ns))
+    subst (λ (ns : List Name). OnOk c.add_named.result (c.add_named.new.found.table ≡ with_names c.args.found.now.table ns))
     (ap (λ (all : List Named). flat_map (λ n. if_there [] names_in (option_map expr_tree n.expr)) all)
     c.as_slice-in-ByName.ensures
     ∙ by_name_names c.in-ByName.all

@@ -6,5 +6,5 @@ use Rattle.eq_elab.specs.inner.Naming.{with_names}
 use Rattle.eq_elab.proofs.naming.add_items.Given as goal
 
 abbrev pub invariant-loop-item : goal.invariant-loop-item
-invariant-loop-item l = l.table ≡ with_names l.fn.table
+invariant-loop-item l = l.found.table ≡ with_names l.fn.found.table
     (flat_map names_of_item (map item_tree (take l.item-index l.items)))

@@ -7,5 +7,5 @@ use Rattle.eq_elab.specs.inner.Naming.{with_names}
 use Rattle.eq_elab.proofs.naming.add_maybes.Given as goal
 
 abbrev pub invariant-loop-expr : goal.invariant-loop-expr
-invariant-loop-expr l = l.table ≡ with_names l.fn.table
+invariant-loop-expr l = l.found.table ≡ with_names l.fn.found.table
     (flat_map (λ e. if_there [] names_in (option_map expr_tree e)) (take l.expr-index l.exprs))

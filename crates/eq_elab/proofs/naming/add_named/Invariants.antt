@@ -7,5 +7,5 @@ use Rattle.eq_elab.specs.inner.Naming.{with_names}
 use Rattle.eq_elab.proofs.naming.add_named.Given as goal
 
 abbrev pub invariant-loop-named : goal.invariant-loop-named
-invariant-loop-named l = l.table ≡ with_names l.fn.table
+invariant-loop-named l = l.found.table ≡ with_names l.fn.found.table
     (flat_map (λ n. if_there [] names_in (option_map expr_tree n.expr)) (take l.named-index l.all))

@@ -6,5 +6,5 @@ use Rattle.eq_elab.specs.inner.Naming.{with_names}
 use Rattle.eq_elab.proofs.naming.add_terms.Given as goal
 
 abbrev pub invariant-loop-term : goal.invariant-loop-term
-invariant-loop-term l = l.table ≡ with_names l.fn.table
+invariant-loop-term l = l.found.table ≡ with_names l.fn.found.table
     (flat_map names_of_whole (map expression (map expr_tree (take l.term-index l.terms))))

@@ -9,7 +9,7 @@ use Rattle.eq_elab.specs.inner.Forms.{operated}
 use Rattle.eq_elab.specs.inner.Rendering.{Makes, MakesAll}
 use Rattle.eq_elab.proofs.Composing.{fit_part, makes_binary, makes_choice, makes_concat, makes_once, makes_repeat, makes_unary, taken_next, tree_of_concat, trees_length, trees_more}
 use Rattle.eq_elab.proofs.Making.{all_more}
-use Rattle.eq_elab.proofs.Measured.{small_part}
+use Rattle.eq_elab.proofs.Measured.{all_small, small_at}
 use Rattle.eq_elab.proofs.PureTrees.{of_binary, of_choice, of_const}
 use Rattle.eq_elab.proofs.Selecting.{if_ok, makes_constant}
 use Rattle.eq_elab.proofs.words.+words.Goals as goal
@@ -28,9 +28,22 @@ concat_word-returns t c =
     c.requires.context c.in_ok-made.ensures))
     c.extended.ensures
 
+pub concat_word-part_words-requires : goal.concat_word-part_words-requires
+concat_word-part_words-requires t c = (
+  search (rules, the_lemmas),
+  (
+    c.requires.room,
+    (
+      c.requires.fit,
+      all_small (scope_of c.args.nets.now c.args.names.now c.args.from) (map expr_tree c.args.parts.now)
+          c.requires.small,
+    ),
+  ),
+)
+
 pub part_words-own-size-requires-clause-small : goal.part_words-own-size-requires-clause-small
 part_words-own-size-requires-clause-small t c =
-    small_part (scope_of c.args.nets.now c.args.names.now c.args.from) c.args.parts.now c.loop-part.part-index
+    small_at (scope_of c.args.nets.now c.args.names.now c.args.from) c.args.parts.now c.loop-part.part-index
     c.part-item.result
     c.loop-part-test.true c.part-item.is c.requires.small
 
@@ -47,7 +60,7 @@ part_words-word-requires t c =
         (
           fit_part nets c.args.names.now c.args.from c.args.parts.now i e c.loop-part-test.true c.part-item.is
               c.requires.fit,
-          (small_part s c.args.parts.now i e c.loop-part-test.true c.part-item.is c.requires.small, omega arith),
+          (small_at s c.args.parts.now i e c.loop-part-test.true c.part-item.is c.requires.small, omega arith),
         ),
       ),
     )
