@@ -28,7 +28,7 @@ use Rattle.eq_wit.proofs.Decoding.{FitsStep, bits_are, bits_from, many, many_are
 abbrev pub query_from : List ℕ → Query
 query_from word = cond (bytes_eq word (codes "base")) Base Step
 
-query_is : (q : Query) → query_from (field_text (query_word q)) ≡ q
+pub query_is : (q : Query) → query_from (field_text (query_word q)) ≡ q
 query_is Base = refl
 query_is Step = refl
 
@@ -119,7 +119,7 @@ FitsEnd (end.Fail k) = k < 2 ^ 64
 FitsEnd end.Deep = Unit {0}
 FitsEnd end.Spent = Unit {0}
 
-end_is : (e : End) → FitsEnd e → end_from (words_of (end_line e)) ≡ e
+pub end_is : (e : End) → FitsEnd e → end_from (words_of (end_line e)) ≡ e
 end_is (end.Proved k) h = ap end.Proved (num_is k h)
 end_is (end.Fail k) h = ap end.Fail (num_is k h)
 end_is end.Deep h = refl

@@ -104,7 +104,7 @@ literal_from [] = record { var = num []; positive = true }
 literal_from (b ∷ bytes) = cond (b == 45) (record { var = num bytes; positive = false })
     (record { var = num (b ∷ bytes); positive = true })
 
-abbrev HasNoMinus : List ℕ → Type 0
+abbrev pub HasNoMinus : List ℕ → Type 0
 HasNoMinus word = AllByRecursion (λ b. (b == 45) ≡ false) word
 
 no_minus-append : (a b : List ℕ) → HasNoMinus a → HasNoMinus b → HasNoMinus (a ++ b)
@@ -114,7 +114,7 @@ no_minus-append (x ∷ a) b h k = (h.0, no_minus-append a b h.1 k)
 digit-no_minus : (d : ℕ) → ((48 + d) == 45) ≡ false
 digit-no_minus d = grind (arith, nat_tests)
 
-no_minus : (n : ℕ) → n < 2 ^ 64 → HasNoMinus (decimal n)
+pub no_minus : (n : ℕ) → n < 2 ^ 64 → HasNoMinus (decimal n)
 no_minus n h =
     let P : ℕ → List ℕ → Type 0 = λ n ds. HasNoMinus ds in
     decimal_by_steps P (λ n small. (digit-no_minus n, tt))

@@ -29,7 +29,7 @@ abbrev part_with : (name : List ℕ) (inputs : List (List ℕ)) (nodes : List No
 part_with name inputs nodes outputs h =
     record { name = name; inputs = inputs; nodes = nodes; outputs = outputs; is_part = h }
 
-same_part : (p q : Part) → p.name ≡ q.name → p.inputs ≡ q.inputs → p.nodes ≡ q.nodes → p.outputs ≡ q.outputs → p ≡ q
+pub same_part : (p q : Part) → p.name ≡ q.name → p.inputs ≡ q.inputs → p.nodes ≡ q.nodes → p.outputs ≡ q.outputs → p ≡ q
 same_part p q name inputs nodes outputs =
     subst (λ (n : List ℕ). p ≡ part_with n q.inputs q.nodes q.outputs q.is_part) name
     (subst (λ (xs : List (List ℕ)). (h : MakePart xs q.nodes q.outputs) → p ≡ part_with p.name xs q.nodes q.outputs h) inputs

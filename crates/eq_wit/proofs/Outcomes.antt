@@ -74,7 +74,7 @@ times_less : (n a b : ℕ) → a ≤ b → n * (a + 1) ≤ n * (b + 1)
 times_less zero a b h = omega arith
 times_less (suc n) a b h = let k = times_less n a b h in omega (arith, k)
 
-fewer_cycles : (part : Part) (k d : ℕ) → 1 ≤ k → k ≤ d → IsUnrollable part d → IsUnrollable part k
+pub fewer_cycles : (part : Part) (k d : ℕ) → 1 ≤ k → k ≤ d → IsUnrollable part d → IsUnrollable part k
 fewer_cycles part k d some small h =
     let less = times_less (length part.nodes) k d small in
     record {

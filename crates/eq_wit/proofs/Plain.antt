@@ -41,7 +41,7 @@ by_test-first : (b : Bool) (rest : Bool) → cond b rest false ≡ true → (b �
 by_test-first true rest e = (refl, e)
 by_test-first false rest e = absurd (cc (e))
 
-by_test : (word : List ℕ) → all_stay word ≡ true → IsWord word
+pub by_test : (word : List ℕ) → all_stay word ≡ true → IsWord word
 by_test [] e = tt
 by_test (b ∷ bytes) e = let both = by_test-first (stays b) (all_stay bytes) e in (both.0, by_test bytes both.1)
 
@@ -72,11 +72,11 @@ bit_stays : (bit : Bool) → IsWord (field_text (bit_word bit))
 bit_stays true = by_test (codes "1") refl
 bit_stays false = by_test (codes "0") refl
 
-bits_word_stays : (bits : List Bool) → IsWord (field_text (bits_word bits))
+pub bits_word_stays : (bits : List Bool) → IsWord (field_text (bits_word bits))
 bits_word_stays [] = by_test (codes "-") refl
 bits_word_stays (bit ∷ bits) = bits_stay (bit ∷ bits)
 
-node_plain : (node : Node) → FitsNode node → IsPlainLine (node_line node)
+pub node_plain : (node : Node) → FitsNode node → IsPlainLine (node_line node)
 node_plain (Const b) h = (by_test (codes "const") refl, (bit_stays b, tt))
 node_plain (Input i) h = (by_test (codes "input") refl, (IsWord-decimal i h, tt))
 node_plain (Not a) h = (by_test (codes "not") refl, (IsWord-decimal a h, tt))
@@ -92,13 +92,13 @@ node_plain (Reg next init) h = (by_test (codes "reg") refl, (IsWord-decimal next
 abbrev FitsOutput : Output → Type 0
 FitsOutput o = IsWord o.name × (o.gold < 2 ^ 64) × (o.gate < 2 ^ 64)
 
-output_plain : (o : Output) → FitsOutput o → IsPlainLine (output_line o)
+pub output_plain : (o : Output) → FitsOutput o → IsPlainLine (output_line o)
 output_plain o h = (h.0, (IsWord-decimal o.gold h.1, (IsWord-decimal o.gate h.2, tt)))
 
-name_plain : (name : List ℕ) → IsWord name → IsPlainLine (name_line name)
+pub name_plain : (name : List ℕ) → IsWord name → IsPlainLine (name_line name)
 name_plain name h = (h, tt)
 
-count_plain : (key : List ℕ) (n : ℕ) → IsWord key → n < 2 ^ 64 → IsPlainLine (Word key ∷ number n ∷ [])
+pub count_plain : (key : List ℕ) (n : ℕ) → IsWord key → n < 2 ^ 64 → IsPlainLine (Word key ∷ number n ∷ [])
 count_plain key n h small = (h, (IsWord-decimal n small, tt))
 
 both_fit : (outputs : List Output) → AllByRecursion (λ o. IsWord o.name) outputs →
@@ -126,7 +126,7 @@ ant_words : (ants : List ℕ) → AllByRecursion (λ n. (1 ≤ n) × (n < 2 ^ 64
 ant_words [] h = tt
 ant_words (n ∷ ants) h = (IsWord-decimal n h.0.1, ant_words ants h.1)
 
-step_plain : (n : ℕ) (step : Inference) → n < 2 ^ 64 → FitsStep step → IsPlainLine (step_fields n step)
+pub step_plain : (n : ℕ) (step : Inference) → n < 2 ^ 64 → FitsStep step → IsPlainLine (step_fields n step)
 step_plain n step small h =
     let zero' : IsWord (codes "0") = by_test (codes "0") refl in (
       IsWord-decimal n small,
@@ -164,7 +164,7 @@ answer_words first (Sat run) h = (by_test (codes "sat") refl, tt)
 answer_words first (Unsat log) h = (by_test (codes "unsat") refl, (IsWord-decimal (length log) (omega (arith, h.0)), tt))
 answer_words first (Spent log) h = (by_test (codes "spent") refl, (IsWord-decimal (length log) (omega (arith, h.0)), tt))
 
-query_stays : (q : Query) → IsWord (field_text (query_word q))
+pub query_stays : (q : Query) → IsWord (field_text (query_word q))
 query_stays Base = by_test (codes "base") refl
 query_stays Step = by_test (codes "step") refl
 
@@ -179,7 +179,7 @@ asked_plain part a h = (
 
 -- ---- tries
 
-end_plain : (e : End) → FitsEnd e → IsPlainLine (end_line e)
+pub end_plain : (e : End) → FitsEnd e → IsPlainLine (end_line e)
 end_plain (end.Proved k) h = (by_test (codes "proved") refl, (IsWord-decimal k h, tt))
 end_plain (end.Fail k) h = (by_test (codes "fail") refl, (IsWord-decimal k h, tt))
 end_plain end.Deep h = (by_test (codes "deep") refl, tt)
@@ -207,7 +207,7 @@ tried_plain part t h = (
       (end_plain t.attempt.end h.fits.end, tt),
 )
 
-verdict_plain : (v : PartVerdict) → IsPlainLine (verdict_line v)
+pub verdict_plain : (v : PartVerdict) → IsPlainLine (verdict_line v)
 verdict_plain (verdict.Proved k n) = (by_test (codes "verdict") refl, (by_test (codes "proved") refl, tt))
 verdict_plain (verdict.Fail k n) = (by_test (codes "verdict") refl, (by_test (codes "fail") refl, tt))
 verdict_plain verdict.Unknown = (by_test (codes "verdict") refl, (by_test (codes "unknown") refl, tt))

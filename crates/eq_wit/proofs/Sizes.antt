@@ -35,7 +35,7 @@ use Rattle.eq_wit.proofs.Whole.{tried_of}
 use Rattle.eq_wit.proofs.Words.{IsWord, IsWord-name}
 
 module _ {X : Type 0} where
-  by_places : (P : X → Type 0) (xs : List X) → ((i : ℕ) (x : X) → slice_get xs i ≡ Some x → P x) → AllByRecursion P xs
+  pub by_places : (P : X → Type 0) (xs : List X) → ((i : ℕ) (x : X) → slice_get xs i ≡ Some x → P x) → AllByRecursion P xs
   by_places P [] h = tt
   by_places P (x ∷ xs) h = (h zero x refl, by_places P xs (λ i y e. h (suc i) y e))
 
@@ -45,7 +45,7 @@ module _ {X : Type 0} where
 
 -- ---- the part
 
-node_fits : (n m inputs : ℕ) (node : Node) → n < 2 ^ 32 → m < n → inputs < 2 ^ 32 → IsNode n m node →
+pub node_fits : (n m inputs : ℕ) (node : Node) → n < 2 ^ 32 → m < n → inputs < 2 ^ 32 → IsNode n m node →
     NamesInput inputs node → FitsNode node
 node_fits n m inputs (Const b) few less small h k = tt
 node_fits n m inputs (Input i) few less small h k = omega (arith, k)
@@ -72,7 +72,7 @@ outputs_fit part = by_places _ part.outputs (λ i o e.
 
 -- ---- queries
 
-step_fits : (step : Inference) → IsStep step → FitsStep step
+pub step_fits : (step : Inference) → IsStep step → FitsStep step
 step_fits step h = record {
   clause = weaker (IsUpTo (2 ^ 31 - 1)) (λ l. (1 ≤ l.var) × (l.var < 2 ^ 64))
       (λ l within. (within.0, omega (arith, within.1))) step.clause
@@ -109,7 +109,7 @@ asked_words part a h log =
 
 -- ---- tries
 
-end_fits : (e : End) → IsShortEnd e → FitsEnd e
+pub end_fits : (e : End) → IsShortEnd e → FitsEnd e
 end_fits (end.Proved k) h = omega (arith, h)
 end_fits (end.Fail k) h = omega (arith, h)
 end_fits end.Deep h = tt

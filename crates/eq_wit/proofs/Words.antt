@@ -88,7 +88,7 @@ divided_blanks (field ∷ fields) rest h =
     ∙ ap with_word (divided_word (field_text field) (spaced_fields fields ++ 10 ∷ rest) (words_of fields) (divided rest)
     h.0 (divided_blanks fields rest h.1))
 
-divided_line : (line : Line) (rest : List ℕ) → IsPlainLine line →
+pub divided_line : (line : Line) (rest : List ℕ) → IsPlainLine line →
     divided (line_text line ++ rest) ≡ words_of line ∷ divided rest
 divided_line [] rest h = absurd h
 divided_line (field ∷ fields) rest h =

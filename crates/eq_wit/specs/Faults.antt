@@ -92,9 +92,9 @@ abbrev pub IsRightButForNumbers : List ℕ → ℕ → Type 0
 IsRightButForNumbers text line = (due : Line) × (words : List (List ℕ)) × IsDue text line due × HasForm due words ×
     (text_line text line ≡ Some (line_text (map Word words)))
 
--- the line is `input I`, and so is an earlier one
+-- the line is `input I` with a number of 32 bits, and so is an earlier one
 abbrev pub RepeatsInput : List ℕ → ℕ → Type 0
-RepeatsInput text line = (i : ℕ) × (earlier : ℕ) × (1 ≤ earlier) × (earlier < line) ×
+RepeatsInput text line = (i : ℕ) × (earlier : ℕ) × (i < 2 ^ 32) × (1 ≤ earlier) × (earlier < line) ×
     (text_line text earlier ≡ Some (line_text (node_line (Input i)))) ×
     (text_line text line ≡ Some (line_text (node_line (Input i))))
 

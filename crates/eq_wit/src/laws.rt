@@ -27,7 +27,7 @@ pub fn one_evidence()
     ensures { OneEvidence }
 {}
 
-/// Takes a value of a type that may move between threads and be shared by them.
+/// TakesLine a value of a type that may move between threads and be shared by them.
 fn across_threads<T: Send + Sync>(_: &T) {}
 
 /// An evidence and its heads, and what is wrong with a text, may move between threads and be shared by them: else this

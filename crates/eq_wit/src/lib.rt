@@ -4,15 +4,38 @@
 //! - `tried`: `may_be_tried`, the test for strategies whose outcome can be printed (`MayBeTried`).
 //! - `put`: single lines as they are written. `log`: the steps of a log, in LRAT.
 //! - `print`: `print_evidence`, which gives the one text (`evidence_text`).
+//! - `state`: where the reading of a text stands (`MayComeNext`). `reached`: that it goes on from there, and stops at the
+//!   first fault (`GoesFurther`, `FaultAtLine`). No public call reads a text yet.
+//! - `dividing`, `numeral`: the lines of a text, the words of a line, and words that are numbers.
+//! - `items`, `nodes`, `inputs`, `truths`, `heads`, `questions`, `ends`: what the words of one line say, or what is wrong
+//!   with them (`ReadsLine`). `steps`: the same of a step of a log (`IsItem`, `IsNoItem`).
+//! - `taking`, `trying`, `answering`, `logging`: where the reading stands behind a line of a part, of a try, of a run and
+//!   of a log (`Judges`).
 //! - `laws`: what strategies come to can be printed. `examples`: texts that are written out.
 #![tactic(auto)]
 
+mod answering;
+mod dividing;
+mod ends;
 pub mod examples;
+mod heads;
+mod inputs;
+mod items;
 pub mod laws;
 mod log;
+mod logging;
+mod nodes;
+mod numeral;
 mod print;
 mod put;
+mod questions;
+mod reached;
+mod state;
+mod steps;
+mod taking;
 mod tried;
+mod truths;
+mod trying;
 mod types;
 
 pub use print::print_evidence;

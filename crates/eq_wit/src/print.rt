@@ -135,7 +135,7 @@ fn put_logged(out: &mut Vec<u8>, word: &[u8], first: u64, log: &Log) -> Result<(
 }
 
 /// The number of the first step of a query's log.
-fn first_number(part: &Part, query: Query, k: u32) -> u64
+pub fn first_number(part: &Part, query: Query, k: u32) -> u64
     requires { IsUnrollable part.now k }
     ensures value { result ≡ spec.first_number part.now query k }
     ensures few { result < 2 ^ 63 }

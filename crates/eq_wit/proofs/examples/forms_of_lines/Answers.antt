@@ -1,4 +1,4 @@
-use Rattle.std.proofs.Common.{◌≡◌, ◌≤◌, ℕ, List, [], ◌∷◌, refl, arith}
+use Rattle.std.proofs.Common.{◌≤◌, ℕ, [], ◌∷◌, refl, arith}
 use Rattle.std.proofs.lemmas.List.Elements.{All-cons}
 use Rattle.eq_names.specs.Name.{IsName, IsNameByte}
 use Rattle.eq_wit.proofs.Forms.{no_deletion, no_open_end}
