@@ -20,3 +20,13 @@ pub mod Stepping
 pub mod Marked
 pub mod Deciding
 pub mod Rippling
+pub mod Cellular
+pub mod CellRows
+pub mod CellSums
+pub mod CellTruths
+pub mod CellShifts
+pub mod CellWords
+pub mod Circuited
+pub mod Walked
+pub mod Completed
+pub mod Swept

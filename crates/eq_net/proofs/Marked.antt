@@ -2,17 +2,15 @@
 use Rattle.std.proofs.Common.{◌≡◌, ℕ, zero, suc, ◌<◌, List, [], ◌∷◌, Bool, true, false, not, nat_lt, ◌-◌, slice_get, length, Option, Some, None, IfSome, refl, arith, ap, sym, subst, ◌∙◌, inl, inr}
 use Rattle.std.proofs.lemmas.Bool.{cases_lt}
 use Rattle.eq_model.specs.Frames.{frames, values}
-use Rattle.eq_model.specs.System.{Values, Cycle, IsHeld, Meets, nothing}
+use Rattle.eq_model.specs.System.{Values}
 use Rattle.eq_names.specs.declared.BitName.{BitName}
 use Rattle.eq_net.specs.declared.types.NetInfo.{NetInfo}
 use Rattle.eq_net.specs.declared.types.WordBit.{WordBit}
-use Rattle.eq_net.specs.declared.types.Driver.{Driver}
-use Rattle.eq_net.specs.declared.types.Driver.TheVariants.{Input, Undriven, Expr as WordOf, Reg}
 use Rattle.eq_net.specs.Tree.{Tree, const, read, pick, negated, opposite, binary, reduced, choice, empty, joined, extended}
 use Rattle.eq_net.specs.Meaning.{if_there, bit_of, table, width}
 use Rattle.eq_net.specs.Cycles.{word_values}
-use Rattle.eq_net.specs.Net.{AreWords, HasWordBit, IsWord, Parts, bits_of, driver_at, number_of, source_of, system_of, word_at}
-use Rattle.eq_net.specs.inner.Marks.{AreMarked, AreWhole, IsGiven, IsReady, MeetsAll}
+use Rattle.eq_net.specs.Net.{AreWords, HasWordBit, IsWord, Parts, bits_of, number_of, word_at}
+use Rattle.eq_net.specs.inner.Marks.{AreMarked, AreWhole, IsReady}
 use Rattle.eq_net.specs.inner.Sized.{HasWords}
 use Rattle.eq_net.proofs.Depending.{apply_same, reduce_same, opposite_same, extended_same, choose_same, branch_same}
 use Rattle.eq_net.proofs.Bounded.{table_below}
@@ -88,23 +86,6 @@ pub mark_there : (xs : List Bool) (b : ℕ) → values xs b ≡ true → b < len
 mark_there [] b e = absurd (cc)
 mark_there (x ∷ xs) zero e = omega arith
 mark_there (x ∷ xs) (suc b) e = (let h = mark_there xs b e in omega arith)
-
-given_value : (nets : List NetInfo) (words : List Tree) (d : Driver) (v : Values) (x y : Bool) → IsGiven d x → (IsHeld (source_of nets words d) → y ≡ x) →
-    Meets (source_of nets words d) v y → x ≡ y
-given_value nets words Input v x y given held meets = sym (held tt)
-given_value nets words Undriven v x y given held meets = given ∙ sym meets
-given_value nets words (WordOf w j) v x y given held meets = absurd given
-given_value nets words (Reg i w j) v x y given held meets = sym (held tt)
-
-module _ (n : Parts) (now : List Bool) (v : Values) (cycle : Cycle (system_of n) nothing (values now) v) where
-  pub meets_all : MeetsAll n v
-  meets_all b lt = cycle.driven b lt refl
-
-  -- bits that are given have their values from the start
-  pub given_marked : (done : List Bool) → length done ≡ bits_of n.nets → ((b : ℕ) → values done b ≡ true → IsGiven (driver_at n b) (values now b)) → AreMarked v now done
-  given_marked done size given b e =
-      let lt : b < bits_of n.nets = (let there = mark_there done b e in omega arith) in
-      given_value n.nets n.words (driver_at n b) v (values now b) (v b) (given b e) (λ h. cycle.held b lt (inr h)) (cycle.driven b lt refl)
 
 -- no word is marked yet
 pub none_whole : (n : Parts) (v : Values) (words : List (List Bool)) (whole : List Bool) → ((w : ℕ) → values whole w ≡ false) → AreWhole n v words whole

@@ -5,11 +5,11 @@ use Rattle.eq_net.specs.declared.types.WordBit.{WordBit}
 use Rattle.eq_net.specs.declared.types.WordOp.{WordOp}
 use Rattle.eq_net.specs.declared.types.RedOp.{RedOp}
 use Rattle.eq_net.specs.declared.types.Word.{Word}
-use Rattle.eq_net.specs.declared.types.Word.TheVariants.{Read, Pick, rolls-Read, rolls-Pick, rolls-Neg, rolls-Binary, rolls-Reduce, rolls-Mux}
-use Rattle.eq_net.specs.declared.types.Word.TheViews.{Neg, Binary, Reduce, Mux}
-use Rattle.eq_net.specs.declared.types.Word.TheOpen.{Read as Layer_read, Pick as Layer_pick, Neg as Layer_neg, Binary as Layer_binary, Reduce as Layer_reduce, Mux as Layer_mux}
+use Rattle.eq_net.specs.declared.types.Word.TheVariants.{Read, Pick, rolls-Read, rolls-Pick, rolls-Not, rolls-Neg, rolls-Binary, rolls-Reduce, rolls-Mux}
+use Rattle.eq_net.specs.declared.types.Word.TheViews.{Not, Neg, Binary, Reduce, Mux}
+use Rattle.eq_net.specs.declared.types.Word.TheOpen.{Read as Layer_read, Pick as Layer_pick, Not as Layer_not, Neg as Layer_neg, Binary as Layer_binary, Reduce as Layer_reduce, Mux as Layer_mux}
 use Rattle.eq_net.specs.declared.types.Word.TheFolds.{fold-roll-Word}
-use Rattle.eq_net.specs.Tree.{Tree, read, pick, opposite, binary, reduced, choice, layer, tree_of, trees_of}
+use Rattle.eq_net.specs.Tree.{Tree, read, pick, negated, opposite, binary, reduced, choice, layer, tree_of, trees_of}
 use Rattle.eq_net.specs.Net.{word_at}
 
 pub tree_of-Read : (names : List BitName) → tree_of (Read names) ≡ read names
@@ -17,6 +17,9 @@ tree_of-Read names = ap tree_of (sym (rolls-Read names)) ∙ fold-roll-Word Tree
 
 pub tree_of-Pick : (bits : List WordBit) → tree_of (Pick bits) ≡ pick bits
 tree_of-Pick bits = ap tree_of (sym (rolls-Pick bits)) ∙ fold-roll-Word Tree layer (Layer_pick bits)
+
+pub tree_of-Not : (a : Word) → tree_of (Not a) ≡ negated (tree_of a)
+tree_of-Not a = ap tree_of (sym (rolls-Not a)) ∙ fold-roll-Word Tree layer (Layer_not a)
 
 pub tree_of-Neg : (a : Word) → tree_of (Neg a) ≡ opposite (tree_of a)
 tree_of-Neg a = ap tree_of (sym (rolls-Neg a)) ∙ fold-roll-Word Tree layer (Layer_neg a)

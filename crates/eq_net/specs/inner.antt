@@ -3,3 +3,6 @@ pub mod Stack
 pub mod Gates
 pub mod Sized
 pub mod Marks
+pub mod Cells
+pub mod CellSteps
+pub mod Circuits

@@ -64,7 +64,8 @@ pub fn is_less(stack: &Vec<bool>, left: usize, right: usize, count: usize) -> bo
     less
 }
 
-fn capped_sum(a: usize, b: usize, most: usize) -> usize
+/// The sum, or `most` where it is more.
+pub fn capped_sum(a: usize, b: usize, most: usize) -> usize
     requires { b ≤ most }
     ensures { result ≡ min most (a + b) }
 {

@@ -8,10 +8,12 @@ ghost use Rattle.eq_net.specs.Cycles.{IsStep};
 ghost use Rattle.eq_net.specs.Net.{NamesWord, bits_of, number_of, source_of, system_of};
 ghost use Rattle.eq_net.specs.Tree.{trees_of};
 ghost use Rattle.eq_net.specs.Whole.{parts_of};
+ghost use Rattle.eq_net.specs.inner.Circuits.{IsSwept};
 ghost use Rattle.eq_net.specs.inner.Sized.{AreStarts, HasWords};
 
+use crate::cells::complete;
 use crate::net::Net;
-use crate::sweep::sweep_all;
+use crate::sweep::{Swept, is_done, sweep_all};
 use crate::types::{Driver, NetInfo, WordBit};
 use crate::word::{evaluate_all, picked};
 use eq_base::{Bits, Memory};
@@ -203,11 +205,68 @@ fn go_round(alloc: Global, net: &Net, starts: &[u32], now: &mut [bool]) -> Resul
     )
 }
 
+/// The bits of all words, where all are marked.
+fn done_words(net: &Net, swept: Swept, now: &[bool]) -> Vec<Bits>
+    requires swept { IsSwept (parts_of net.now) now.now swept.done.items swept.words.items
+        swept.whole.items }
+    requires count { length swept.words.items ≡ length net.now.words }
+    requires bits { (b : ℕ) → b < bits_of net.now.nets → values swept.done.items b ≡ true }
+    requires words { (w : ℕ) → w < length net.now.words → values swept.whole.items w ≡ true }
+    ensures cycle { Cycle (system_of (parts_of net.now)) nothing (values now.now)
+        (values now.now) }
+    ensures words { HasWords (values now.now) (number_of net.now.nets)
+        (trees_of net.now.words) (length net.now.words) result.items }
+{
+    swept.words
+}
+
+/// Gives the bits that aren't marked their values, and answers the bits of all words.
+///
+/// What the sweep has left is computed once bit by bit. The rounds stand for what the walk through these bits doesn't reach,
+/// and for more cells than there are numbers. In no netlist are there such bits, since a netlist has no loop, but this is no
+/// contract of the walk.
+fn finish(
+    alloc: Global,
+    net: &Net,
+    starts: &[u32],
+    swept: Swept,
+    now: &mut [bool],
+) -> Result<Vec<Bits>, Memory>
+    requires starts { AreStarts net.now.nets starts.now }
+    requires bits { length now.old ≡ bits_of net.now.nets }
+    requires swept { IsSwept (parts_of net.now) now.old swept.done.items swept.words.items
+        swept.whole.items }
+    requires marks { length swept.done.items ≡ bits_of net.now.nets }
+    requires words { length swept.words.items ≡ length net.now.words }
+    requires whole { length swept.whole.items ≡ length net.now.words }
+    ensures cycle { IfOk result (λ words.
+        Cycle (system_of (parts_of net.now)) nothing (values now.old) (values now.new)) }
+    ensures words { IfOk result (λ words. HasWords (values now.new) (number_of net.now.nets)
+        (trees_of net.now.words) (length net.now.words) words.items) }
+{
+    if is_done(&swept) {
+        return Ok(done_words(net, swept, now));
+    }
+    let found = complete(
+        alloc,
+        net,
+        starts,
+        &swept.words,
+        &swept.whole,
+        &swept.done,
+        now,
+    )?;
+    match found {
+        Some(words) => Ok(words),
+        None => go_round(alloc, net, starts, now),
+    }
+}
+
 /// Gives all bits their values in one cycle, in which the inputs and the registers have the values that stand in `now`.
 /// Answers the bits of all words.
 ///
 /// Each word is evaluated once, behind those that it reads. Where no such order was found, since words read one another bit
-/// by bit, what is left has been computed bit by bit, and rounds check it: one, where each bit came behind what it reads.
+/// by bit, what is left is computed once bit by bit.
 fn solve(alloc: Global, net: &Net, now: &mut [bool]) -> Result<Vec<Bits>, Memory>
     requires { length now.old ≡ bits_of net.now.nets }
     ensures cycle { IfOk result (λ words.
@@ -215,12 +274,9 @@ fn solve(alloc: Global, net: &Net, now: &mut [bool]) -> Result<Vec<Bits>, Memory
     ensures words { IfOk result (λ words. HasWords (values now.new) (number_of net.now.nets)
         (trees_of net.now.words) (length net.now.words) words.items) }
 {
-    one_cycle();
     let starts = starts(alloc, net.nets.as_slice())?;
-    match sweep_all(alloc, net, &starts, now)? {
-        Some(words) => Ok(words),
-        None => go_round(alloc, net, &starts, now),
-    }
+    let swept = sweep_all(alloc, net, &starts, now)?;
+    finish(alloc, net, &starts, swept, now)
 }
 
 /// The values of all bits in one cycle and the registers' next values, from the values of the registers and of the inputs,

@@ -6,9 +6,9 @@
 //!   each operator in the place of its operands (`apply`, `reduce`, `choose`).
 //! - `word`: the bits of words (`bit_of`, `HasWords`).
 //! - `ordering`, `chains`: an order of the words, and what each drives, of which nothing is promised. `readiness`: whether all
-//!   that a word reads has its value (`IsReady`). `sweep`: each word evaluated once, behind what it reads (`AreMarked`,
-//!   `AreWhole`).
-//! - `cells`, `circuits`, `trial`: the bits that the sweep leaves, computed one by one, of which nothing is promised.
+//!   that a word reads has its value (`IsReady`). `marking`: bits that have their final values. `sweep`: each word evaluated
+//!   once, behind what it reads (`IsSwept`).
+//! - `cells`: the bits that the sweep leaves, computed one by one (`complete`).
 //! - `cycle`: the first state, and one step (`IsStep`).
 //! - `laws`: a net is a design, steps are its run. `examples`: what the definitions say, on numbers.
 #![tactic(auto)]
@@ -18,10 +18,10 @@ mod automatic;
 mod bitwise;
 mod cells;
 mod chains;
-mod circuits;
 mod cycle;
 pub mod examples;
 pub mod laws;
+mod marking;
 mod naming;
 mod net;
 mod operators;
@@ -30,7 +30,6 @@ mod readiness;
 mod reduction;
 mod stack;
 mod sweep;
-mod trial;
 mod types;
 mod word;
 

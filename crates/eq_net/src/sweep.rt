@@ -3,126 +3,23 @@
 
 ghost use Rattle.std.specs.Prelude.{◌≡◌, ◌≢◌, ℕ, ◌<◌, [], IfOk, IfSome, OnOk, false, length, slice_index_or, true};
 ghost use Rattle.eq_model.specs.Frames.{values};
-ghost use Rattle.eq_model.specs.System.{Cycle, IsHeld, Values, nothing};
+ghost use Rattle.eq_model.specs.System.{IsHeld, Values};
 ghost use Rattle.eq_net.specs.Cycles.{word_values};
 ghost use Rattle.eq_net.specs.Meaning.{width};
-ghost use Rattle.eq_net.specs.Net.{bits_of, driver_at, number_of, system_of, word_at};
-ghost use Rattle.eq_net.specs.Tree.{trees_of};
+ghost use Rattle.eq_net.specs.Net.{bits_of, system_of, word_at};
 ghost use Rattle.eq_net.specs.Whole.{parts_of};
-ghost use Rattle.eq_net.specs.inner.Marks.{AreMarked, AreWhole, IsGiven, MeetsAll};
-ghost use Rattle.eq_net.specs.inner.Sized.{AreStarts, HasWords};
+ghost use Rattle.eq_net.specs.inner.Circuits.{IsSwept};
+ghost use Rattle.eq_net.specs.inner.Marks.{AreMarked, AreWhole};
+ghost use Rattle.eq_net.specs.inner.Sized.{AreStarts};
 
-use crate::chains::{Chains, driven_chains, link_at};
+use crate::chains::driven_chains;
+use crate::marking::{given_marks, put_chain};
 use crate::net::Net;
 use crate::ordering::word_order;
-use crate::readiness::{are_all, is_marked, is_ready};
-use crate::trial::try_bits;
-use crate::types::{Driver, WordBit};
-use crate::word::{evaluate, picked};
+use crate::readiness::{are_all, is_ready};
+use crate::word::evaluate;
 use eq_base::{Bits, Memory};
 use std::alloc::Global;
-
-/// Whether a bit that has this value has its final one from the start: it is given, or nothing drives it and it is 0.
-fn is_given(driver: Driver, value: bool) -> bool
-    ensures { result ≡ true → IsGiven driver value }
-{
-    match driver {
-        Driver::Input => true,
-        Driver::Undriven => !value,
-        Driver::Expr { .. } => false,
-        Driver::Reg { .. } => true,
-    }
-}
-
-/// Marks the bits that a cycle doesn't compute.
-fn given_marks(alloc: Global, net: &Net, now: &[bool]) -> Result<Vec<bool>, Memory>
-    requires { length now.now ≡ bits_of net.now.nets }
-    ensures size { IfOk result (λ done. length done.items ≡ bits_of net.now.nets) }
-    ensures given { IfOk result (λ done. (b : ℕ) → values done.items b ≡ true →
-        IsGiven (driver_at (parts_of net.now) b) (values now.now b)) }
-{
-    let mut done = Vec::with_capacity(alloc, now.len())?;
-    for (b, driver) in net.drivers.as_slice().iter().enumerate() {
-        done.push(is_given(*driver, now[b]))?;
-    }
-    Ok(done)
-}
-
-/// Gives a bit its final value.
-fn mark(b: usize, value: bool, now: &mut [bool], done: &mut Vec<bool>)
-    requires bit { b < length now.old }
-    requires mark { b < length done.old.items }
-    ensures there { values now.new b ≡ value }
-    ensures others { (k : ℕ) → k ≢ b → values now.new k ≡ values now.old k }
-    ensures marks { (k : ℕ) → k ≢ b → values done.new.items k ≡ values done.old.items k }
-    ensures size { length done.new.items ≡ length done.old.items }
-{
-    now[b] = value;
-    done[b] = true;
-}
-
-/// Gives a bit what its driver has among the bits of words, where a word that is marked drives it.
-fn put_driven(
-    net: &Net,
-    words: &[Bits],
-    whole: &[bool],
-    b: usize,
-    now: &mut [bool],
-    done: &mut Vec<bool>,
-)
-    requires bits { length now.old ≡ bits_of net.now.nets }
-    requires marks { length done.old.items ≡ bits_of net.now.nets }
-    ensures held { (k : ℕ) → IsHeld ((system_of (parts_of net.now)).driver k) →
-        values now.new k ≡ values now.old k }
-    ensures marked { (v : Values) → MeetsAll (parts_of net.now) v →
-        AreWhole (parts_of net.now) v words.now whole.now →
-        AreMarked v now.old done.old.items → AreMarked v now.new done.new.items }
-    ensures size { length done.new.items ≡ length done.old.items }
-{
-    let drivers = net.drivers.as_slice();
-    if b < drivers.len() {
-        match drivers[b] {
-            Driver::Expr { word, bit } => {
-                if is_marked(whole, word as usize) {
-                    mark(b, picked(WordBit { word, bit }, words), now, done);
-                }
-            }
-            Driver::Input => {}
-            Driver::Undriven => {}
-            Driver::Reg { .. } => {}
-        }
-    }
-}
-
-/// Gives the bits that a word drives their values among the bits of words.
-fn put_chain(
-    net: &Net,
-    words: &[Bits],
-    whole: &[bool],
-    chains: &Chains,
-    word: usize,
-    now: &mut [bool],
-    done: &mut Vec<bool>,
-)
-    requires bits { length now.old ≡ bits_of net.now.nets }
-    requires marks { length done.old.items ≡ bits_of net.now.nets }
-    ensures held { (k : ℕ) → IsHeld ((system_of (parts_of net.now)).driver k) →
-        values now.new k ≡ values now.old k }
-    ensures marked { (v : Values) → MeetsAll (parts_of net.now) v →
-        AreWhole (parts_of net.now) v words.now whole.now →
-        AreMarked v now.old done.old.items → AreMarked v now.new done.new.items }
-    ensures size { length done.new.items ≡ length done.old.items }
-{
-    let mut cursor = link_at(&chains.first, word);
-    for _ in 0..net.drivers.len() {
-        if cursor == 0 {
-            break;
-        }
-        let b = (cursor - 1) as usize;
-        put_driven(net, words, whole, b, now, done);
-        cursor = link_at(&chains.next, b);
-    }
-}
 
 /// Keeps the bits of a word, which is marked.
 fn keep(bits: Bits, word: usize, words: &mut Vec<Bits>, whole: &mut Vec<bool>)
@@ -218,14 +115,9 @@ fn sweep_words(
     requires marks { length done.old.items ≡ bits_of net.now.nets }
     ensures held { OnOk result ((k : ℕ) → IsHeld ((system_of (parts_of net.now)).driver k) →
         values now.new k ≡ values now.old k) }
-    ensures marked { OnOk result ((v : Values) → MeetsAll (parts_of net.now) v →
-        AreMarked v now.old done.old.items →
-        AreWhole (parts_of net.now) v words.old.items whole.old.items →
-        AreMarked v now.new done.new.items) }
-    ensures whole { OnOk result ((v : Values) → MeetsAll (parts_of net.now) v →
-        AreMarked v now.old done.old.items →
-        AreWhole (parts_of net.now) v words.old.items whole.old.items →
-        AreWhole (parts_of net.now) v words.new.items whole.new.items) }
+    ensures swept { OnOk result
+        (IsSwept (parts_of net.now) now.old done.old.items words.old.items whole.old.items →
+        IsSwept (parts_of net.now) now.new done.new.items words.new.items whole.new.items) }
     ensures size { OnOk result (length words.new.items ≡ length words.old.items) }
     ensures count { OnOk result (length whole.new.items ≡ length whole.old.items) }
     ensures marks { OnOk result (length done.new.items ≡ length done.old.items) }
@@ -262,25 +154,31 @@ fn no_marks(alloc: Global, count: usize) -> Result<Vec<bool>, Memory>
     Ok(marks)
 }
 
-/// Evaluates each word once, behind those that it reads where there is such an order. Answers the bits of all words, where
-/// each bit and each word has its final value, or none, and then bits have trial values. What a cycle doesn't compute stays.
+/// The bits of words, and which words and bits of nets are marked.
+#[derive(Debug, Drop)]
+pub struct Swept {
+    pub words: Vec<Bits>,
+    pub whole: Vec<bool>,
+    pub done: Vec<bool>,
+}
+
+/// Evaluates each word once, behind those that it reads where there is such an order. What is marked has its final value.
+/// What a cycle doesn't compute stays.
 pub fn sweep_all(
     alloc: Global,
     net: &Net,
     starts: &[u32],
     now: &mut [bool],
-) -> Result<Option<Vec<Bits>>, Memory>
+) -> Result<Swept, Memory>
     requires starts { AreStarts net.now.nets starts.now }
     requires bits { length now.old ≡ bits_of net.now.nets }
     ensures held { OnOk result ((k : ℕ) → IsHeld ((system_of (parts_of net.now)).driver k) →
         values now.new k ≡ values now.old k) }
-    ensures bits { IfOk result (λ found. IfSome found (λ words. (v : Values) →
-        Cycle (system_of (parts_of net.now)) nothing (values now.old) v →
-        (b : ℕ) → b < bits_of net.now.nets → values now.new b ≡ v b)) }
-    ensures words { IfOk result (λ found. IfSome found (λ words. (v : Values) →
-        Cycle (system_of (parts_of net.now)) nothing (values now.old) v →
-        HasWords v (number_of net.now.nets) (trees_of net.now.words) (length net.now.words)
-        words.items)) }
+    ensures swept { IfOk result (λ s.
+        IsSwept (parts_of net.now) now.new s.done.items s.words.items s.whole.items) }
+    ensures bits { IfOk result (λ s. length s.done.items ≡ bits_of net.now.nets) }
+    ensures words { IfOk result (λ s. length s.words.items ≡ length net.now.words) }
+    ensures marks { IfOk result (λ s. length s.whole.items ≡ length net.now.words) }
 {
     let order = word_order(alloc, net, starts)?;
     let mut words = no_bits(alloc, net.words.len())?;
@@ -289,10 +187,15 @@ pub fn sweep_all(
     sweep_words(
         alloc, net, starts, &order, &mut words, &mut whole, now, &mut done,
     )?;
-    if are_all(&done) && are_all(&whole) {
-        Ok(Some(words))
-    } else {
-        try_bits(alloc, net, starts, &words, &whole, now, &done)?;
-        Ok(None)
-    }
+    Ok(Swept { words, whole, done })
+}
+
+/// Whether all bits and all words are marked.
+pub fn is_done(swept: &Swept) -> bool
+    ensures bits { result ≡ true → (b : ℕ) → b < length swept.now.done.items →
+        values swept.now.done.items b ≡ true }
+    ensures words { result ≡ true → (w : ℕ) → w < length swept.now.whole.items →
+        values swept.now.whole.items w ≡ true }
+{
+    are_all(&swept.done) && are_all(&swept.whole)
 }

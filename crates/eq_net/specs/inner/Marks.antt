@@ -1,8 +1,8 @@
 -- Cited by proofs alone; nothing here has to be believed.
 -- While the words of a cycle are evaluated one after another: bits and words are marked that have the values of a solution.
-use Rattle.std.specs.Prelude.{◌≡◌, ℕ, ◌<◌, List, [], Bool, All, true, false, length, slice_index_or}
+use Rattle.std.specs.Prelude.{◌≡◌, ◌≢◌, ℕ, Option, Some, None, ◌<◌, List, [], Bool, All, true, false, length, slice_index_or}
 use Rattle.eq_model.specs.Frames.{frames, values}
-use Rattle.eq_model.specs.System.{Values, Meets}
+use Rattle.eq_model.specs.System.{Values}
 use Rattle.eq_names.specs.declared.BitName.{BitName}
 use Rattle.eq_net.specs.declared.types.WordBit.{WordBit}
 use Rattle.eq_net.specs.declared.types.Driver.{Driver}
@@ -10,11 +10,20 @@ use Rattle.eq_net.specs.declared.types.Driver.TheVariants.{Input, Undriven, Expr
 use Rattle.eq_net.specs.Cycles.{word_values}
 use Rattle.eq_net.specs.Tree.{Tree, const, read, pick, negated, opposite, binary, reduced, choice, empty, joined, extended}
 use Rattle.eq_net.specs.Meaning.{width}
-use Rattle.eq_net.specs.Net.{Parts, bits_of, system_of, word_at}
+use Rattle.eq_net.specs.Net.{Parts, word_at}
 
--- each bit is as its driver says
-abbrev pub MeetsAll : Parts → Values → Type 0
-MeetsAll n v = (b : ℕ) → b < bits_of n.nets → Meets ((system_of n).driver b) v (v b)
+-- the value of a bit that a word drives, where the word is marked
+abbrev pub HasValue : Driver → List (List Bool) → List Bool → Bool → Type 0
+HasValue (WordOf w j) words whole x = (values whole w ≡ true) × (x ≡ frames words w j)
+HasValue Input words whole x = ⊥
+HasValue Undriven words whole x = ⊥
+HasValue (Reg init w j) words whole x = ⊥
+
+-- bit b has the value, if there is one, and is marked, and all others are as they were
+abbrev pub IsMarkedAs : ℕ → Option Bool → List Bool → List Bool → List Bool → List Bool → Type 0
+IsMarkedAs b None now now' done done' = (now' ≡ now) × (done' ≡ done)
+IsMarkedAs b (Some x) now now' done done' = (values now' b ≡ x) × (values done' b ≡ true) ×
+    ((k : ℕ) → k ≢ b → values now' k ≡ values now k) × ((k : ℕ) → k ≢ b → values done' k ≡ values done k)
 
 -- a bit that is given, or one without a driver that is 0
 abbrev pub IsGiven : Driver → Bool → Type 0

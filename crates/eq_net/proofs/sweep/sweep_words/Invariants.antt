@@ -1,18 +1,15 @@
 use Rattle.std.proofs.Common.{◌≡◌, ℕ, length}
 use Rattle.eq_model.specs.Frames.{values}
-use Rattle.eq_model.specs.System.{IsHeld, Values}
+use Rattle.eq_model.specs.System.{IsHeld}
 use Rattle.eq_net.specs.Net.{system_of}
 use Rattle.eq_net.specs.Whole.{parts_of}
-use Rattle.eq_net.specs.inner.Marks.{AreMarked, AreWhole, MeetsAll}
+use Rattle.eq_net.specs.inner.Circuits.{IsSwept}
 use Rattle.eq_net.proofs.sweep.sweep_words.Given as goal
 
 abbrev pub invariant-loop-word : goal.invariant-loop-word
 invariant-loop-word l = record {
   held : (k : ℕ) → IsHeld ((system_of (parts_of l.net)).driver k) → values l.now k ≡ values l.fn.now k;
-  marked : (v : Values) → MeetsAll (parts_of l.net) v → AreMarked v l.fn.now l.fn.done.items →
-      AreWhole (parts_of l.net) v l.fn.words.items l.fn.whole.items → AreMarked v l.now l.done.items;
-  whole : (v : Values) → MeetsAll (parts_of l.net) v → AreMarked v l.fn.now l.fn.done.items →
-      AreWhole (parts_of l.net) v l.fn.words.items l.fn.whole.items → AreWhole (parts_of l.net) v l.words.items l.whole.items;
+  swept : IsSwept (parts_of l.net) l.fn.now l.fn.done.items l.fn.words.items l.fn.whole.items → IsSwept (parts_of l.net) l.now l.done.items l.words.items l.whole.items;
   size : length l.words.items ≡ length l.fn.words.items;
   count : length l.whole.items ≡ length l.fn.whole.items;
   marks : length l.done.items ≡ length l.fn.done.items;
