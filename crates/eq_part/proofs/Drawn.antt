@@ -1,12 +1,25 @@
--- The edges of words, pairs and bits together are those of the graph.
-use Rattle.std.proofs.Common.{◌≡◌, ℕ, ◌+◌, ◌<◌, ◌↔◌, List, [], Bool, true, false, not, length, refl, arith, ap, inl, inr}
+-- The edges of words, pairs and bits that are in none make the graph of visits.
+use Rattle.std.proofs.Common.{◌≡◌, ℕ, zero, suc, ◌+◌, ◌<◌, ◌↔◌, List, Bool, true, false, not, length, Contains, refl, arith, sym, subst, ◌∙◌, inl, inr}
 use Rattle.eq_model.specs.Frames.{values}
-use Rattle.eq_net.specs.Net.{Parts, bits_of}
+use Rattle.eq_model.specs.System.{reads_ever}
+use Rattle.eq_net.specs.declared.types.Driver.{Driver}
+use Rattle.eq_net.specs.declared.types.Driver.TheVariants.{Input, Undriven, Expr as WordOf, Reg}
+use Rattle.eq_net.specs.Meaning.{reads_of}
+use Rattle.eq_net.specs.Net.{IsNet, NamesWord, Parts, bits_of, driver_at, number_of, source_of}
 use Rattle.eq_match.specs.declared.types.Pair.{Pair}
+use Rattle.eq_match.specs.Matched.{gold_bit}
 use Rattle.eq_match.specs.Pairs.{pair_at}
+use Rattle.eq_part.specs.declared.nodes.Nodes.{Nodes}
 use Rattle.eq_part.specs.declared.reached.Edge.{Edge}
-use Rattle.eq_part.specs.inner.Graph.{Joins}
-use Rattle.eq_part.specs.inner.Visits.{AreLed, ArePlaces, AreVisits, FreeVisits, Gains, PairsVisit, Unpaired, WordVisits}
+use Rattle.eq_part.specs.inner.Graph.{Joins, from_at, to_at}
+use Rattle.eq_part.specs.inner.Leading.{Leads, LeadsBy, LeadsTo}
+use Rattle.eq_part.specs.inner.Reading.{IsReady, picked_node}
+use Rattle.eq_part.specs.inner.Visits.{AreLed, AreVisits, DrawnVisits, Gains, IsPlacedDriver, IsWordBit, Unpaired, Visits, outer, part_node}
+use Rattle.eq_part.specs.inner.Walking.{number_at}
+use Rattle.eq_part.proofs.Grown.{leaf_leads}
+use Rattle.eq_part.proofs.Placed.{named_there, placed_driver}
+use Rattle.eq_part.proofs.Ranged.{none_read}
+use Rattle.eq_part.proofs.Ways.{all_at, table_word}
 
 held_is : (b : Bool) → b ≡ false → not b ≡ true
 held_is true is = absurd (cc)
@@ -16,37 +29,194 @@ input_is : (b : Bool) → not b ≡ true → b ≡ false
 input_is true is = absurd (cc)
 input_is false is = refl
 
-none_joined : (edges : List Edge) → edges ≡ [] → (a b : ℕ) → Joins edges a b → ⊥
-none_joined edges is a b j = (let e = ap length is in let lt = j.there in absurd (omega arith))
+module _ (gold : Parts) (net : IsNet gold) (pairs : List Pair) (leaders : List ℕ) (led : AreLed gold pairs leaders)
+    (places : List ℕ) (s : Nodes) (row : List ℕ)
+    (ready : IsReady gold places s row) (count : length places ≡ length gold.words)
+    (none_is : s.none ≡ outer gold pairs)
+    (paired : List Bool) (told : (b : ℕ) → b < bits_of gold.nets → (values paired b ≡ false) ↔ Unpaired gold pairs b)
+    (edges : List Edge) (gains : Gains s.edges.items edges (DrawnVisits gold pairs leaders (values paired) places
+    row)) where
+  abbrev none : ℕ
+  none = outer gold pairs
 
-pub all_visits : (gold : Parts) (pairs : List Pair) (leaders places : List ℕ) (paired : List Bool) (e0 e1 e2 e3 : List Edge) → AreLed gold pairs leaders →
-    ArePlaces gold.words (bits_of gold.nets + length pairs) places → length paired ≡ bits_of gold.nets →
-    ((b : ℕ) → b < bits_of gold.nets → (values paired b ≡ false) ↔ Unpaired gold pairs b) → e0 ≡ [] →
-    Gains e0 e1 (WordVisits gold places) → Gains e1 e2 (PairsVisit gold pairs leaders places (length pairs)) →
-    Gains e2 e3 (FreeVisits gold (values paired) places (bits_of gold.nets)) → AreVisits gold pairs leaders places e3
-all_visits gold pairs leaders places paired e0 e1 e2 e3 led placed size told none f g h = record {
-  placed = placed;
-  there = λ a b v. elim v [
-    | inl w ↦ h.kept a b (g.kept a b (f.there a b w))
-    | inr more ↦ elim more [
-      | inl p ↦ h.kept a b (g.there a b (record { pair = p.output; before = p.there; visits = (input_is (pair_at pairs p.output).input p.held, inl (p.is, p.driven)) }))
-      | inr last ↦ elim last [
-        | inl o ↦ h.kept a b (g.there a b (record { pair = o.output; before = o.there; visits = (input_is (pair_at pairs o.output).input o.held, inr (o.is, o.part)) }))
-        | inr u ↦ h.there a b (record { before = u.there; free = (told a u.there).1 u.unpaired; driven = u.driven })
-      ]
-    ]
-  ];
-  only = λ a b j. elim (h.only a b j) [
-    | inl before ↦ elim (g.only a b before) [
-      | inl first ↦ elim (f.only a b first) [
-        | inl old ↦ absurd (none_joined e0 none a b old)
-        | inr w ↦ inl w
-      ]
-      | inr p ↦ elim p.visits.1 [
-        | inl part ↦ inr (inl (record { output = p.pair; there = p.before; held = held_is (pair_at pairs p.pair).input p.visits.0; is = part.0; driven = part.1 }))
-        | inr out ↦ inr (inr (inl (record { output = p.pair; there = p.before; held = held_is (pair_at pairs p.pair).input p.visits.0; is = out.0; part = out.1 })))
-      ]
-    ]
-    | inr u ↦ inr (inr (inr (record { there = u.before; unpaired = (told a u.before).0 u.free; driven = u.driven })))
-  ];
-}
+  abbrev D : ℕ → ℕ → Type 0
+  D = DrawnVisits gold pairs leaders (values paired) places row
+
+  abbrev d_at : ℕ → Driver
+  d_at b = driver_at gold b
+
+  part_outside : (i : ℕ) → i < length pairs → part_node gold leaders i < none
+  part_outside i li = (let l = led.led i li in omega arith)
+
+  bit_outside : (i : ℕ) → i < length pairs → gold_bit gold pairs i < none
+  bit_outside i li = (let l = named_there gold.nets (pair_at pairs i).gold (led.there i li) in omega arith)
+
+  drawn_outside : (a b : ℕ) → D a b → a < none
+  drawn_outside a b (inl p) = elim p.visits.1 [
+    | inl part ↦ (let is = part.0 in let l = part_outside p.pair p.before in omega arith)
+    | inr out ↦ (let is = out.0 in let l = bit_outside p.pair p.before in omega arith)
+  ]
+  drawn_outside a b (inr f) = (let lt = f.before in omega arith)
+
+  -- edges from bits and partitions change nothing of what inner nodes lead to
+  kept_by : (n x c : ℕ) → LeadsBy s.edges.items s.none n x c → LeadsBy edges none n x c
+  kept_by zero x c l = (l.0, (let lt = l.1 in omega arith))
+  kept_by (suc n) x c (y, inner, j, l) = (y, omega arith, gains.kept x y j, kept_by n y c l)
+
+  back_by : (n x c : ℕ) → LeadsBy edges none n x c → LeadsBy s.edges.items s.none n x c
+  back_by zero x c l = (l.0, (let lt = l.1 in omega arith))
+  back_by (suc n) x c (y, inner, j, l) = elim (gains.only x y j) [
+    | inl old ↦ (y, omega arith, old, back_by n y c l)
+    | inr new ↦ (let out = drawn_outside x y new in absurd (omega arith))
+  ]
+
+  -- ---- what drives a bit
+
+  word_leads : (w j c : ℕ) → NamesWord gold.words (WordOf w j) →
+      LeadsTo s (picked_node places row (record { word = w; bit = j })) c ↔
+      Contains (reads_ever (source_of gold.nets gold.words (WordOf w j))) c
+  word_leads w j c named =
+      let lt = named.0 in
+      let t = (ready.told w j (omega arith) named.1).leads c in
+      let is = table_word (reads_of (number_of gold.nets)) gold.words (length gold.words) w j named.0 in
+      let P : List ℕ → Type 0 = λ rs. Contains rs c in
+      (λ l. subst P (sym is) (t.0 l), λ h. t.1 (subst P is h))
+
+  driver_leads : (d : Driver) → NamesWord gold.words d → (x c : ℕ) → IsWordBit places row d x → LeadsTo s x c →
+      Contains (reads_ever (source_of gold.nets gold.words d)) c
+  driver_leads Input named x c driven l = absurd driven
+  driver_leads Undriven named x c driven l = absurd driven
+  driver_leads (WordOf w j) named x c driven l = (word_leads w j c named).0 (subst (λ (y : ℕ). LeadsTo s y c) driven l)
+  driver_leads (Reg init w j) named x c driven l = (word_leads w j c named).0 (subst (λ (y : ℕ). LeadsTo s y c) driven
+      l)
+
+  driver_read : (d : Driver) → NamesWord gold.words d → (c : ℕ) →
+      Contains (reads_ever (source_of gold.nets gold.words d)) c → (x : ℕ) × IsWordBit places row d x × LeadsTo s x c
+  driver_read Input named c h = absurd (none_read c h)
+  driver_read Undriven named c h = absurd (none_read c h)
+  driver_read (WordOf w j) named c h = (
+    picked_node places row (record { word = w; bit = j }),
+    refl,
+    (word_leads w j c named).1 h,
+  )
+  driver_read (Reg init w j) named c h = (
+    picked_node places row (record { word = w; bit = j }),
+    refl,
+    (word_leads w j c named).1 h,
+  )
+
+  driver_there : (d : Driver) → IsPlacedDriver places row d → (x : ℕ) → IsWordBit places row d x → x < s.next
+  driver_there Input at x driven = absurd driven
+  driver_there Undriven at x driven = absurd driven
+  driver_there (WordOf w j) at x driven = (let l = ready.there (number_at places w + j) at.1 in omega arith)
+  driver_there (Reg init w j) at x driven = (let l = ready.there (number_at places w + j) at.1 in omega arith)
+
+  named : (b : ℕ) → NamesWord gold.words (d_at b)
+  named b = all_at (NamesWord gold.words) gold.drivers Undriven net.drivers_named tt b
+
+  bit_there : (b x : ℕ) → IsWordBit places row (d_at b) x → x < s.next
+  bit_there b x driven = driver_there (d_at b) (placed_driver gold places s row ready (omega arith) net b) x driven
+
+  -- ---- the graph
+
+  drawn_below : (a b : ℕ) → D a b → (a < s.next) × (b < s.next)
+  drawn_below a b v =
+      let room = ready.are.room in
+      let out = drawn_outside a b v in (
+        omega arith,
+        elim v [
+          | inl p ↦ elim p.visits.1 [
+            | inl part ↦ bit_there (gold_bit gold pairs p.pair) b part.1
+            | inr o ↦ (let is = o.1 in let l = part_outside p.pair p.before in omega arith)
+          ]
+          | inr f ↦ bit_there a b f.driven
+        ],
+      )
+
+  below : (a b : ℕ) → Joins edges a b → (a < s.next) × (b < s.next)
+  below a b j = elim (gains.only a b j) [
+    | inl old ↦ (ready.are.starts a b old, ready.are.ends a b old)
+    | inr new ↦ drawn_below a b new
+  ]
+
+  none_joined : (b : ℕ) → ¬ Joins edges none b
+  none_joined b j = elim (gains.only none b j) [
+    | inl old ↦ (let i = ready.are.inner none b old in absurd (omega arith))
+    | inr new ↦ (let out = drawn_outside none b new in absurd (omega arith))
+  ]
+
+  there : (a b : ℕ) → Visits gold pairs leaders a b → (x : ℕ) × Joins edges a x × Leads edges none x b
+  there a b (inl v) =
+      let bit = gold_bit gold pairs v.output in
+      let r = driver_read (d_at bit) (named bit) b v.reads in
+      let drawn : D a r.0 = inl
+      (record {
+        pair = v.output;
+        before = v.there;
+        visits = (
+          input_is (pair_at pairs v.output).input v.held,
+          inl (v.is, r.1),
+        );
+      }) in
+      (r.0, gains.there a r.0 drawn, (r.2.0, kept_by r.2.0 r.0 b r.2.1))
+  there a b (inr (inl v)) =
+      let drawn : D a b = inl (record {
+        pair = v.output;
+        before = v.there;
+        visits = (input_is (pair_at pairs v.output).input v.held, inr (v.is, v.part));
+      }) in
+      let out = part_outside v.output v.there in
+      let is = v.part in
+      let lt : b < none = omega arith in
+      (b, gains.there a b drawn, (0, (refl, lt)))
+  there a b (inr (inr v)) =
+      let r = driver_read (d_at a) (named a) b v.reads in
+      let drawn : D a r.0 = inr (record { before = v.there; free = (told a v.there).1 v.unpaired; driven = r.1 }) in
+      (r.0, gains.there a r.0 drawn, (r.2.0, kept_by r.2.0 r.0 b r.2.1))
+
+  only_drawn : (a x b : ℕ) → D a x → Leads edges none x b → Visits gold pairs leaders a b
+  only_drawn a x b (inl p) l = elim p.visits.1 [
+    | inl part ↦ (
+        let bit = gold_bit gold pairs p.pair in
+        inl (record {
+          output = p.pair;
+          there = p.before;
+          held = held_is (pair_at pairs p.pair).input p.visits.0;
+          is = part.0;
+          reads = driver_leads (d_at bit) (named bit) x b part.1 (l.0, back_by l.0 x b l.1);
+        }))
+    | inr o ↦ (
+        let out = part_outside p.pair p.before in
+        let is = o.1 in
+        let lt : x < none = omega arith in
+        let same = (leaf_leads edges none x b lt).0 l in
+        inr (inl (record {
+          output = p.pair;
+          there = p.before;
+          held = held_is (pair_at pairs p.pair).input p.visits.0;
+          is = o.0;
+          part = sym same ∙ o.1;
+        })))
+  ]
+  only_drawn a x b (inr f) l = inr (inr (record {
+    there = f.before;
+    unpaired = (told a f.before).0 f.free;
+    reads = driver_leads (d_at a) (named a) x b f.driven (l.0, back_by l.0 x b l.1);
+  }))
+
+  pub all_visits : AreVisits gold pairs leaders edges s.next
+  all_visits = record {
+    room = (let r = ready.are.room in omega arith);
+    between = record {
+      starts = λ e lt. (below (from_at edges e) (to_at edges e)
+          (record { edge = e; there = lt; starts = refl; ends = refl })).0;
+      ends = λ e lt. (below (from_at edges e) (to_at edges e)
+          (record { edge = e; there = lt; starts = refl; ends = refl })).1;
+    };
+    none = none_joined;
+    there = there;
+    only = λ a x b lt j l. elim (gains.only a x j) [
+      | inl old ↦ (let i = ready.are.inner a x old in absurd (omega arith))
+      | inr new ↦ only_drawn a x b new l
+    ];
+  }

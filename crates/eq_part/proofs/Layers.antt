@@ -11,9 +11,8 @@ use Rattle.eq_net.specs.declared.types.Word.TheViews.{Not, Neg, Binary, Reduce, 
 use Rattle.eq_net.specs.declared.types.Word.TheOpen.{Const as Layer_const, Read as Layer_read, Pick as Layer_pick, Not as Layer_not, Neg as Layer_neg, Binary as Layer_binary, Reduce as Layer_reduce, Mux as Layer_mux, Extend as Layer_extend}
 use Rattle.eq_net.specs.declared.types.Word.TheFolds.{fold-roll-Word}
 use Rattle.eq_net.specs.Meaning.{width}
-use Rattle.eq_net.specs.Net.{word_at}
+use Rattle.eq_net.specs.Net.{IsWord, word_at}
 use Rattle.eq_net.specs.Tree.{Tree, const, read, pick, negated, opposite, binary, reduced, choice, extended, join_all, layer, tree_of, trees_of}
-use Rattle.eq_part.specs.inner.Reading.{Fits}
 
 pub tree_of-Const : (bits : List Bool) → tree_of (Const bits) ≡ const bits
 tree_of-Const bits = ap tree_of (sym (rolls-Const bits)) ∙ fold-roll-Word Tree layer (Layer_const bits)
@@ -43,7 +42,8 @@ pub tree_of-Extend : (a : Word) (n : ℕ) → tree_of (Extend a n) ≡ extended 
 tree_of-Extend a n = ap tree_of (sym (rolls-Extend a n)) ∙ fold-roll-Word Tree layer (Layer_extend a n)
 
 -- the tree of the word at a place
-pub tree_at : (ws : List Word) (k : ℕ) (w : Word) → k < length ws → w ≡ slice_index_or ws k w → word_at (trees_of ws) k ≡ tree_of w
+pub tree_at : (ws : List Word) (k : ℕ) (w : Word) → k < length ws → w ≡ slice_index_or ws k w → word_at (trees_of ws)
+    k ≡ tree_of w
 tree_at [] k w lt e = absurd (omega arith)
 tree_at (x ∷ xs) zero w lt e = ap tree_of (sym e)
 tree_at (x ∷ xs) (suc k) w lt e = tree_at xs k w (omega arith) e
@@ -59,11 +59,13 @@ rest_from (t ∷ ts) zero lt = refl
 rest_from (t ∷ ts) (suc k) lt = rest_from ts k (omega arith)
 
 -- each part of a concatenation has what is asked of the whole
-pub part_fits : (nets : List NetInfo) (places : List ℕ) (ts : List Tree) (k : ℕ) → k < length ts → Fits nets places (join_all ts) → Fits nets places (word_at ts k)
-part_fits nets places [] k lt is = absurd (omega arith)
-part_fits nets places (t ∷ ts) zero lt is = is.0
-part_fits nets places (t ∷ ts) (suc k) lt is = part_fits nets places ts k (omega arith) is.1
+pub part_word : (nets : List NetInfo) (words : List Tree) (n : ℕ) (ts : List Tree) (k : ℕ) → k < length ts →
+    IsWord nets words n (join_all ts) → IsWord nets words n (word_at ts k)
+part_word nets words n [] k lt is = absurd (omega arith)
+part_word nets words n (t ∷ ts) zero lt is = is.0
+part_word nets words n (t ∷ ts) (suc k) lt is = part_word nets words n ts k (omega arith) is.1
 
 -- the bits of the parts from a place on
-pub rest_width : (ts : List Tree) (k : ℕ) → k < length ts → width (join_all (drop k ts)) ≡ width (word_at ts k) + width (join_all (drop (suc k) ts))
+pub rest_width : (ts : List Tree) (k : ℕ) → k < length ts → width (join_all (drop k ts)) ≡ width (word_at ts k) +
+    width (join_all (drop (suc k) ts))
 rest_width ts k lt = ap (λ us. width (join_all us)) (rest_from ts k lt)

@@ -1,14 +1,13 @@
 -- What ranges of positions of an operation read, from what ranges of its operands read.
-use Rattle.std.proofs.Common.{◌≡◌, ℕ, zero, suc, ◌+◌, ◌-◌, ◌<◌, ◌≤◌, ◌⊎◌, if◌then◌else◌, min, [], ◌++◌, Bool, false, cond, nat_lt, Contains, refl, arith, sym, ap, subst, inl, inr}
-use Rattle.std.proofs.lemmas.Bool.{cases_lt, lt-ltb, lt-leb}
+use Rattle.std.proofs.Common.{◌≡◌, ℕ, zero, suc, ◌-◌, ◌<◌, ◌≤◌, ◌⊎◌, ◌++◌, false, cond, refl, arith, sym, ap, subst, inl, inr}
 use Rattle.std.proofs.lemmas.List.Elements.{Contains-append_cases, Contains-append_left, Contains-append_right}
 use Rattle.eq_net.specs.declared.types.WordOp.{WordOp}
 use Rattle.eq_net.specs.declared.types.WordOp.TheVariants as op
-use Rattle.eq_net.specs.Operators.{Reads, all_reads, apply_reads, extended_reads, has_free_sizes, one_read, reads_from}
+use Rattle.eq_net.specs.Operators.{Reads, all_reads, apply_reads, has_free_sizes, one_read, reads_from}
 use Rattle.eq_net.specs.Meaning.{result_size}
-use Rattle.eq_part.specs.declared.ranges.Ranges.{Ranges}
-use Rattle.eq_part.specs.inner.Reading.{ReadIn, all_ranges, ranges, ranges_of, top}
-use Rattle.eq_part.proofs.Ranged.{all_in, from_in, in_all, in_from, in_left, in_lowest, in_right, in_upto, in_whole, lowest_in, none_read, not_zero, one_in, parts_in, upto_in, whole_in}
+use Rattle.eq_part.specs.inner.Reading.{ReadIn}
+use Rattle.eq_part.specs.inner.Shapes.{Ranges, all_ranges, ranges, ranges_of}
+use Rattle.eq_part.proofs.Ranged.{all_in, from_in, in_all, in_from, in_left, in_lowest, in_right, in_upto, in_whole, lowest_in, not_zero, one_in, parts_in, upto_in, whole_in}
 
 -- what two operands read in these ranges
 abbrev pub OperandsRead : Reads → Reads → Ranges → ℕ → Type 0
@@ -22,24 +21,32 @@ module _ (r q : Reads) (m n h b : ℕ) where
   none_both (inl left) = (let y = left.to_high in absurd (omega arith))
   none_both (inr right) = (let y = right.to_high in absurd (omega arith))
 
-  one_both_in : (l : ℕ) → ReadIn (one_read (all_reads m r ++ all_reads n q)) l h b → OperandsRead r q (all_ranges l m n) b
-  one_both_in zero i = elim (Contains-append_cases (all_reads m r) (all_reads n q) b (lowest_in (all_reads m r ++ all_reads n q) h b i)) [
-    | inl left ↦ inl (all_in m r b left)
-    | inr right ↦ inr (all_in n q b right)
-  ]
+  one_both_in : (l : ℕ) → ReadIn (one_read (all_reads m r ++ all_reads n q)) l h b →
+      OperandsRead r q (all_ranges l m n) b
+  one_both_in zero i = elim (Contains-append_cases (all_reads m r) (all_reads n q) b
+      (lowest_in (all_reads m r ++ all_reads n q) h b i)) [
+        | inl left ↦ inl (all_in m r b left)
+        | inr right ↦ inr (all_in n q b right)
+      ]
   one_both_in (suc l) i = absurd (one_in (all_reads m r ++ all_reads n q) l h b i)
 
-  in_one_both : (l : ℕ) → l < h → OperandsRead r q (all_ranges l m n) b → ReadIn (one_read (all_reads m r ++ all_reads n q)) l h b
-  in_one_both zero lt (inl left) = in_lowest (all_reads m r ++ all_reads n q) h b lt (Contains-append_left (all_reads m r) (all_reads n q) b (in_all m r b left))
-  in_one_both zero lt (inr right) = in_lowest (all_reads m r ++ all_reads n q) h b lt (Contains-append_right (all_reads m r) (all_reads n q) b (in_all n q b right))
-  in_one_both (suc l) lt reads = absurd (none_both (subst (λ (s : Ranges). OperandsRead r q s b) (all_above l m n) reads))
+  in_one_both : (l : ℕ) → l < h → OperandsRead r q (all_ranges l m n) b →
+      ReadIn (one_read (all_reads m r ++ all_reads n q)) l h b
+  in_one_both zero lt (inl left) = in_lowest (all_reads m r ++ all_reads n q) h b lt
+      (Contains-append_left (all_reads m r) (all_reads n q) b (in_all m r b left))
+  in_one_both zero lt (inr right) = in_lowest (all_reads m r ++ all_reads n q) h b lt
+      (Contains-append_right (all_reads m r) (all_reads n q) b (in_all n q b right))
+  in_one_both (suc l) lt reads = absurd (none_both (subst (λ (s : Ranges). OperandsRead r q s b) (all_above l m n)
+      reads))
 
   module _ (l : ℕ) where
-    both_in : (f g : Reads) (s : Ranges) → (ReadIn f l h b → ReadIn r s.left_low s.left_high b) → (ReadIn g l h b → ReadIn q s.right_low s.right_high b) →
+    both_in : (f g : Reads) (s : Ranges) → (ReadIn f l h b → ReadIn r s.left_low s.left_high b) →
+        (ReadIn g l h b → ReadIn q s.right_low s.right_high b) →
         ReadIn (λ j. f j ++ g j) l h b → OperandsRead r q s b
     both_in f g s left right i = elim (parts_in f g l h b i) [ inl x ↦ inl (left x) | inr y ↦ inr (right y) ]
 
-    in_both : (f g : Reads) (s : Ranges) → (ReadIn r s.left_low s.left_high b → ReadIn f l h b) → (ReadIn q s.right_low s.right_high b → ReadIn g l h b) →
+    in_both : (f g : Reads) (s : Ranges) → (ReadIn r s.left_low s.left_high b → ReadIn f l h b) →
+        (ReadIn q s.right_low s.right_high b → ReadIn g l h b) →
         OperandsRead r q s b → ReadIn (λ j. f j ++ g j) l h b
     in_both f g s left right (inl x) = in_left f g l h b (left x)
     in_both f g s left right (inr y) = in_right f g l h b (right y)
@@ -49,10 +56,14 @@ module _ (r q : Reads) (m n h b : ℕ) where
     operation_in op.Or = both_in r q (ranges_of op.Or m n l h) (λ x. x) (λ x. x)
     operation_in op.Xor = both_in r q (ranges_of op.Xor m n l h) (λ x. x) (λ x. x)
     operation_in op.Xnor = both_in r q (ranges_of op.Xnor m n l h) (λ x. x) (λ x. x)
-    operation_in op.Add = both_in (λ j. all_reads (suc j) r) (λ j. all_reads (suc j) q) (ranges_of op.Add m n l h) (upto_in r l h b) (upto_in q l h b)
-    operation_in op.Sub = both_in (λ j. all_reads (suc j) r) (λ j. all_reads (suc j) q) (ranges_of op.Sub m n l h) (upto_in r l h b) (upto_in q l h b)
-    operation_in op.Shl = both_in (λ j. all_reads (suc j) r) (λ j. all_reads n q) (ranges_of op.Shl m n l h) (upto_in r l h b) (whole_in q n l h b)
-    operation_in op.Shr = both_in (λ j. reads_from j (m - j) r) (λ j. all_reads n q) (ranges_of op.Shr m n l h) (from_in r m l h b) (whole_in q n l h b)
+    operation_in op.Add = both_in (λ j. all_reads (suc j) r) (λ j. all_reads (suc j) q) (ranges_of op.Add m n l h)
+        (upto_in r l h b) (upto_in q l h b)
+    operation_in op.Sub = both_in (λ j. all_reads (suc j) r) (λ j. all_reads (suc j) q) (ranges_of op.Sub m n l h)
+        (upto_in r l h b) (upto_in q l h b)
+    operation_in op.Shl = both_in (λ j. all_reads (suc j) r) (λ j. all_reads n q) (ranges_of op.Shl m n l h)
+        (upto_in r l h b) (whole_in q n l h b)
+    operation_in op.Shr = both_in (λ j. reads_from j (m - j) r) (λ j. all_reads n q) (ranges_of op.Shr m n l h)
+        (from_in r m l h b) (whole_in q n l h b)
     operation_in op.Eq = one_both_in l
     operation_in op.Ne = one_both_in l
     operation_in op.Lt = one_both_in l
@@ -62,15 +73,20 @@ module _ (r q : Reads) (m n h b : ℕ) where
     operation_in op.LogAnd = one_both_in l
     operation_in op.LogOr = one_both_in l
 
-    pub in_operation : (o : WordOp) → l < h → OperandsRead r q (ranges_of o m n l h) b → ReadIn (apply_reads o m n r q) l h b
+    pub in_operation : (o : WordOp) → l < h → OperandsRead r q (ranges_of o m n l h) b →
+        ReadIn (apply_reads o m n r q) l h b
     in_operation op.And lt = in_both r q (ranges_of op.And m n l h) (λ x. x) (λ x. x)
     in_operation op.Or lt = in_both r q (ranges_of op.Or m n l h) (λ x. x) (λ x. x)
     in_operation op.Xor lt = in_both r q (ranges_of op.Xor m n l h) (λ x. x) (λ x. x)
     in_operation op.Xnor lt = in_both r q (ranges_of op.Xnor m n l h) (λ x. x) (λ x. x)
-    in_operation op.Add lt = in_both (λ j. all_reads (suc j) r) (λ j. all_reads (suc j) q) (ranges_of op.Add m n l h) (in_upto r l h b lt) (in_upto q l h b lt)
-    in_operation op.Sub lt = in_both (λ j. all_reads (suc j) r) (λ j. all_reads (suc j) q) (ranges_of op.Sub m n l h) (in_upto r l h b lt) (in_upto q l h b lt)
-    in_operation op.Shl lt = in_both (λ j. all_reads (suc j) r) (λ j. all_reads n q) (ranges_of op.Shl m n l h) (in_upto r l h b lt) (in_whole q n l h b lt)
-    in_operation op.Shr lt = in_both (λ j. reads_from j (m - j) r) (λ j. all_reads n q) (ranges_of op.Shr m n l h) (in_from r m l h b lt) (in_whole q n l h b lt)
+    in_operation op.Add lt = in_both (λ j. all_reads (suc j) r) (λ j. all_reads (suc j) q) (ranges_of op.Add m n l h)
+        (in_upto r l h b lt) (in_upto q l h b lt)
+    in_operation op.Sub lt = in_both (λ j. all_reads (suc j) r) (λ j. all_reads (suc j) q) (ranges_of op.Sub m n l h)
+        (in_upto r l h b lt) (in_upto q l h b lt)
+    in_operation op.Shl lt = in_both (λ j. all_reads (suc j) r) (λ j. all_reads n q) (ranges_of op.Shl m n l h)
+        (in_upto r l h b lt) (in_whole q n l h b lt)
+    in_operation op.Shr lt = in_both (λ j. reads_from j (m - j) r) (λ j. all_reads n q) (ranges_of op.Shr m n l h)
+        (in_from r m l h b lt) (in_whole q n l h b lt)
     in_operation op.Eq lt = in_one_both l lt
     in_operation op.Ne lt = in_one_both l lt
     in_operation op.Lt lt = in_one_both l lt
@@ -87,9 +103,11 @@ pub record Inside (s : Ranges) (m n : ℕ) : Type 0 where
 
 all_inside : (l m n : ℕ) → Inside (all_ranges l m n) m n
 all_inside zero m n = record { left = omega arith; right = omega arith }
-all_inside (suc l) m n = subst (λ (s : Ranges). Inside s m n) (sym (all_above l m n)) (record { left = omega arith; right = omega arith })
+all_inside (suc l) m n = subst (λ (s : Ranges). Inside s m n) (sym (all_above l m n))
+    (record { left = omega arith; right = omega arith })
 
-pub inside : (o : WordOp) (m n l h : ℕ) → h ≤ result_size o m → (has_free_sizes o ≡ false → m ≡ n) → Inside (ranges_of o m n l h) m n
+pub inside : (o : WordOp) (m n l h : ℕ) → h ≤ result_size o m → (has_free_sizes o ≡ false → m ≡ n) →
+    Inside (ranges_of o m n l h) m n
 inside op.And m n l h le same = (let e = same refl in record { left = le; right = omega arith })
 inside op.Or m n l h le same = (let e = same refl in record { left = le; right = omega arith })
 inside op.Xor m n l h le same = (let e = same refl in record { left = le; right = omega arith })
@@ -106,83 +124,3 @@ inside op.Gt m n l h le same = all_inside l m n
 inside op.Ge m n l h le same = all_inside l m n
 inside op.LogAnd m n l h le same = all_inside l m n
 inside op.LogOr m n l h le same = all_inside l m n
-
--- ---- the other words
-
-pub reduced_in : (r : Reads) (n l h b : ℕ) → ReadIn (one_read (all_reads n r)) l h b → ReadIn r 0 (top l n) b
-reduced_in r n zero h b i = all_in n r b (lowest_in (all_reads n r) h b i)
-reduced_in r n (suc l) h b i = absurd (one_in (all_reads n r) l h b i)
-
-pub in_reduced : (r : Reads) (n l h b : ℕ) → l < h → ReadIn r 0 (top l n) b → ReadIn (one_read (all_reads n r)) l h b
-in_reduced r n zero h b lt i = in_lowest (all_reads n r) h b lt (in_all n r b i)
-in_reduced r n (suc l) h b lt i =
-    let none : top (suc l) n ≡ 0 = ap (λ t. cond {A = ℕ} t n 0) (not_zero l) in
-    let y = i.to_high in
-    absurd (omega arith)
-
-pub extended_in : (r : Reads) (n l h b : ℕ) → ReadIn (extended_reads n r) l h b → ReadIn r l (min h n) b
-extended_in r n l h b i = elim (cases_lt i.position n) [
-  | inl less ↦ (let y = i.to_high in record {
-    position = i.position;
-    from_low = i.from_low;
-    to_high = omega arith;
-    reads = subst (λ (t : Bool). Contains (cond t (r i.position) []) b) (lt-ltb i.position n less) i.reads;
-  })
-  | inr more ↦ absurd (none_read b (subst (λ (t : Bool). Contains (cond t (r i.position) []) b) (lt-leb (suc i.position) n (omega arith)) i.reads))
-]
-
-pub in_extended : (r : Reads) (n l h b : ℕ) → ReadIn r l (min h n) b → ReadIn (extended_reads n r) l h b
-in_extended r n l h b i =
-    let y = i.to_high in
-    let less : i.position < n = omega arith in
-    record {
-      position = i.position;
-      from_low = i.from_low;
-      to_high = omega arith;
-      reads = subst (λ (t : Bool). Contains (cond t (r i.position) []) b) (sym (lt-ltb i.position n less)) i.reads;
-    }
-
--- the first of two words that are joined has the higher bits
-abbrev pub joined_reads : ℕ → Reads → Reads → Reads
-joined_reads n r q j = if nat_lt j n then q j else r (j - n)
-
-pub joined_in : (r q : Reads) (n w l h b : ℕ) → ReadIn (joined_reads n r q) l (min h (n + w)) b → ReadIn q l (min h n) b ⊎ ReadIn r (l - n) (min (h - n) w) b
-joined_in r q n w l h b i = elim (cases_lt i.position n) [
-  | inl less ↦ (let y = i.to_high in inl (record {
-    position = i.position;
-    from_low = i.from_low;
-    to_high = omega arith;
-    reads = subst (λ (t : Bool). Contains (cond t (q i.position) (r (i.position - n))) b) (lt-ltb i.position n less) i.reads;
-  }))
-  | inr more ↦ (let x = i.from_low in let y = i.to_high in inr (record {
-    position = i.position - n;
-    from_low = omega arith;
-    to_high = omega arith;
-    reads = subst (λ (t : Bool). Contains (cond t (q i.position) (r (i.position - n))) b) (lt-leb (suc i.position) n (omega arith)) i.reads;
-  }))
-]
-
-pub in_low : (r q : Reads) (n w l h b : ℕ) → ReadIn q l (min h n) b → ReadIn (joined_reads n r q) l (min h (n + w)) b
-in_low r q n w l h b i =
-    let y = i.to_high in
-    let less : i.position < n = omega arith in
-    record {
-      position = i.position;
-      from_low = i.from_low;
-      to_high = omega arith;
-      reads = subst (λ (t : Bool). Contains (cond t (q i.position) (r (i.position - n))) b) (sym (lt-ltb i.position n less)) i.reads;
-    }
-
-pub in_high : (r q : Reads) (n w l h b : ℕ) → ReadIn r (l - n) (min (h - n) w) b → ReadIn (joined_reads n r q) l (min h (n + w)) b
-in_high r q n w l h b i =
-    let x = i.from_low in
-    let y = i.to_high in
-    let p = n + i.position in
-    let back : i.position ≡ p - n = omega arith in
-    record {
-      position = p;
-      from_low = omega arith;
-      to_high = omega arith;
-      reads = subst (λ (t : Bool). Contains (cond t (q p) (r (p - n))) b) (sym (lt-leb (suc p) n (omega arith)))
-          (subst (λ (k : ℕ). Contains (r k) b) back i.reads);
-    }

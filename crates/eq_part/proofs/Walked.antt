@@ -126,7 +126,7 @@ reached_next edges roots v x r j = record { root = r.root; marked = r.marked; st
 
 -- marks that are settled and have the roots have all that is reached
 pub all_marked : (edges : List Edge) (marks : List Bool) → ((x : ℕ) → values marks x ≡ true → IsSettled edges marks x) →
-    (n a b : ℕ) → values marks a ≡ true → Chain edges n a b → values marks b ≡ true
+    (n a b : ℕ) → values marks a ≡ true → Chain (Joins edges) n a b → values marks b ≡ true
 all_marked edges marks settled zero a b is same = subst (λ (u : ℕ). values marks u ≡ true) same is
 all_marked edges marks settled (suc n) a b is (c, chain, j) =
     subst (λ (u : ℕ). values marks u ≡ true) j.ends (settled c (all_marked edges marks settled n a c is chain) j.edge j.there j.starts)

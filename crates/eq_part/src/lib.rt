@@ -6,7 +6,9 @@
 //! - `state`, `uniting`: partitions while lines are read, and their unions (`union`).
 //! - `merging`, `renaming`: the lines `merge` and `name` (`RuleMakes`).
 //! - `reached`: what can be reached in a graph (`IsReached`).
-//! - `ranges`, `reads`: what ranges of the bits of words read, as edges (`Adds`).
+//! - `edges`, `row`: edges (`Adds`), and rows of nodes (`Appended`).
+//! - `nodes`, `operators`: nodes that lead to what others lead to (`RowGrew`), and those of operations (`OperandsLead`).
+//! - `words`: the nodes of words, a few for each bit (`WordGrew`).
 //! - `visits`: the graph of a walk against the reads (`AreVisits`).
 //! - `path`: `on_path`, the partitions on a path (`LiesBetween`). `joining`: the line `path`.
 //! - `lines`: all lines in their order (`SectionsMake`).
@@ -19,6 +21,7 @@
 
 mod clashes;
 mod dividing;
+mod edges;
 pub mod examples;
 mod finishing;
 mod joining;
@@ -26,13 +29,14 @@ pub mod laws;
 mod limits;
 mod lines;
 mod merging;
+mod nodes;
+mod operators;
 mod path;
 mod plan;
 mod planning;
-mod ranges;
 mod reached;
-mod reads;
 mod renaming;
+mod row;
 mod starting;
 mod state;
 mod tables;
@@ -40,6 +44,7 @@ mod types;
 mod uniting;
 mod visits;
 mod wholes;
+mod words;
 
 pub use dividing::divide;
 pub use eq_base::Memory;

@@ -18,6 +18,7 @@ use crate::visits::{graph_of, pair_at};
 use eq_base::{Bits, Memory};
 use eq_match::Pair;
 use eq_net::Net;
+use eq_net::laws::words_make_a_system;
 use std::alloc::Global;
 
 /// The edges the other way round.
@@ -135,8 +136,9 @@ pub fn on_path(
         LiesBetween (parts_of gold.now) pairs.now (one_leader leaders.now) (values starts.now)
         (values ends.now) i) }
 {
+    words_make_a_system();
     let graph = graph_of(alloc, gold, pairs, leaders)?;
-    let nodes = graph.places[gold.words.len()];
+    let nodes = graph.next;
     let along = turned(alloc, &graph.edges)?;
     let before = walk(alloc, gold, nodes, pairs, leaders, starts, &along)?;
     let behind = walk(alloc, gold, nodes, pairs, leaders, ends, &graph.edges)?;

@@ -11,9 +11,9 @@ ghost use Rattle.eq_part.specs.inner.Tabling.{AreOnceBelow, AreOwned, AreOwnedBy
 ghost use Rattle.eq_part.specs.inner.Walking.{number_at};
 
 use crate::plan::{BitNumbers, PairedBits, Places};
-use crate::reads::named;
 use crate::types::Partition;
 use crate::visits::starts;
+use crate::words::named;
 use eq_base::{Items, Memory};
 use eq_match::Pair;
 use eq_names::BitName;

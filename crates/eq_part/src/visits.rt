@@ -1,33 +1,28 @@
-//! The graph of a walk against the reads: bits that are read, partitions, and bits of words.
+//! The graph of a walk against the reads: bits that are read, partitions, and the nodes of words between them.
 
-ghost use Rattle.std.specs.Prelude.{◌≡◌, ℕ, ◌+◌, ◌<◌, ◌≤◌, ◌^◌, ◌↔◌, false, true, suc, IfOk, OnOk, length, replicate};
+ghost use Rattle.std.specs.Prelude.{◌≡◌, ℕ, ◌+◌, ◌<◌, ◌≤◌, ◌^◌, ◌↔◌, [], false, true, suc, IfOk, OnOk, length, replicate};
 ghost use Rattle.eq_model.specs.Frames.{values};
-ghost use Rattle.eq_net.specs.Meaning.{width};
-ghost use Rattle.eq_net.specs.Net.{HasBit, bits_of, driver_at, number_of, word_at};
+ghost use Rattle.eq_net.specs.Net.{HasBit, bits_of, driver_at, number_of};
 ghost use Rattle.eq_net.specs.Tree.{tree_of, trees_of};
 ghost use Rattle.eq_net.specs.Whole.{parts_of};
 ghost use Rattle.eq_match.specs.Groups.{is_held};
 ghost use Rattle.eq_match.specs.Pairs.{pair_at};
 ghost use Rattle.eq_match.specs.Matched.{gold_bit};
-ghost use Rattle.eq_part.specs.inner.Reading.{Adds, BeginAt, Fits};
-ghost use Rattle.eq_part.specs.inner.Visits.{AreLed, ArePlaces, AreVisits, BitsVisit, FreeVisits, Gains, IsPlacedDriver, IsWordBit, OneVisits, PairsVisit, Unpaired, WordVisits};
+ghost use Rattle.eq_part.specs.inner.Leading.{AreNodes, NodesGrew};
+ghost use Rattle.eq_part.specs.inner.Reading.{Adds, BeginAt, IsReady};
+ghost use Rattle.eq_part.specs.inner.Visits.{AreLed, AreVisits, DrawnVisits, FreeVisits, Gains, IsPlacedDriver, IsWordBit, OneVisits, PairsVisit, Unpaired};
 ghost use Rattle.eq_part.specs.inner.Walking.{number_at};
 
-use crate::ranges::{add, width};
+use crate::edges::{add, push_edge};
+use crate::nodes::Nodes;
 use crate::reached::{Edge, no_marks};
-use crate::reads::{named, picked, push_edge, push_word};
+use crate::row::push;
+use crate::words::{named, picked, push_word};
 use eq_base::Memory;
 use eq_match::Pair;
 use eq_net::laws::bits_stand_by_nets;
 use eq_net::{Driver, Net, NetInfo, Word, WordBit};
 use std::alloc::Global;
-
-/// The edges, and where the bits of each word begin among the nodes, and where the last end.
-#[derive(Debug, Drop)]
-pub struct Graph {
-    pub edges: Vec<Edge>,
-    pub places: Vec<usize>,
-}
 
 /// Where the bits of each net begin.
 pub fn starts(alloc: Global, nets: &[NetInfo]) -> Result<Vec<usize>, Memory>
@@ -44,78 +39,28 @@ pub fn starts(alloc: Global, nets: &[NetInfo]) -> Result<Vec<usize>, Memory>
     Ok(starts)
 }
 
-/// Where the bits of each word begin, from `first` on, and where the last end.
-fn places(alloc: Global, words: &[Word], first: usize) -> Result<Vec<usize>, Memory>
-    ensures { IfOk result (λ places. ArePlaces (trees_of words.now) first places.items) }
-{
-    let mut places = Vec::with_capacity(alloc, words.len())?;
-    let mut next = first;
-    for word in words {
-        places.push(next)?;
-        let size = width(word)?;
-        next = add(next, size)?;
-    }
-    places.push(next)?;
-    Ok(places)
-}
-
-/// Adds the edges of a word's bits, whose numbers are those from `place` up to `end`.
-fn push_bits(
-    gold: &Net,
-    word: &Word,
-    place: usize,
-    end: usize,
-    starts: &[usize],
-    places: &[usize],
-    edges: &mut Vec<Edge>,
-) -> Result<(), Memory>
-    requires fits { Fits gold.now.nets places.now (tree_of word.now) }
-    requires end { end ≡ place + width (tree_of word.now) }
-    requires starts { BeginAt gold.now.nets starts.now }
-    requires few { bits_of gold.now.nets < 2 ^ 32 }
-    ensures { OnOk result (Gains edges.old.items edges.new.items
-        (BitsVisit (parts_of gold.now) places.now (tree_of word.now) place)) }
-{
-    for node in place..end {
-        let bit = node - place;
-        push_word(
-            word,
-            bit,
-            bit + 1,
-            node,
-            gold.nets.as_slice(),
-            starts,
-            places,
-            edges,
-        )?;
-    }
-    Ok(())
-}
-
-/// Adds the edges of the bits of all words.
+/// Puts the nodes of all words behind one another, and keeps where those of each begin.
 fn push_words(
     gold: &Net,
     starts: &[usize],
-    places: &[usize],
-    edges: &mut Vec<Edge>,
+    places: &mut Vec<usize>,
+    nodes: &mut Nodes,
+    row: &mut Vec<usize>,
 ) -> Result<(), Memory>
-    requires places { ArePlaces (parts_of gold.now).words (number_at places.now 0) places.now }
     requires starts { BeginAt gold.now.nets starts.now }
     requires few { bits_of gold.now.nets < 2 ^ 32 }
-    ensures { OnOk result (Gains edges.old.items edges.new.items
-        (WordVisits (parts_of gold.now) places.now)) }
+    requires none { places.old.items ≡ [] }
+    requires ready { IsReady (parts_of gold.now) places.old.items nodes.old row.old.items }
+    ensures count { OnOk result (length places.new.items ≡ length (parts_of gold.now).words) }
+    ensures grew { OnOk result (NodesGrew nodes.old nodes.new) }
+    ensures ready { OnOk result (IsReady (parts_of gold.now) places.new.items nodes.new
+        row.new.items) }
 {
     let words = gold.words.as_slice();
     for w in 0..words.len() {
-        push_bits(
-            gold,
-            &words[w],
-            places[w],
-            places[w + 1],
-            starts,
-            places,
-            edges,
-        )?;
+        let begin = row.len();
+        push_word(&words[w], gold, starts, places.as_slice(), nodes, row)?;
+        push(places, begin)?;
     }
     Ok(())
 }
@@ -125,21 +70,22 @@ fn push_driven(
     from: usize,
     driver: Driver,
     places: &[usize],
+    row: &Vec<usize>,
     edges: &mut Vec<Edge>,
 ) -> Result<(), Memory>
-    requires { IsPlacedDriver places.now driver }
+    requires { IsPlacedDriver places.now row.now.items driver }
     ensures { OnOk result (Adds edges.old.items edges.new.items from
-        (IsWordBit places.now driver)) }
+        (IsWordBit places.now row.now.items driver)) }
 {
     match driver {
         Driver::Input => Ok(()),
         Driver::Undriven => Ok(()),
-        Driver::Expr { word, bit } => push_edge(from, picked(WordBit { word, bit }, places), edges),
-        Driver::Reg { word, bit, .. } => push_edge(
-            from,
-            picked(WordBit { word, bit }, places),
-            edges,
-        ),
+        Driver::Expr { word, bit } => {
+            push_edge(from, picked(WordBit { word, bit }, places, row), edges)
+        }
+        Driver::Reg { word, bit, .. } => {
+            push_edge(from, picked(WordBit { word, bit }, places, row), edges)
+        }
     }
 }
 
@@ -195,16 +141,18 @@ fn push_free(
     gold: &Net,
     paired: &[bool],
     places: &[usize],
+    row: &Vec<usize>,
     edges: &mut Vec<Edge>,
 ) -> Result<(), Memory>
     requires size { length paired.now ≡ bits_of gold.now.nets }
-    requires places { ArePlaces (parts_of gold.now).words (number_at places.now 0) places.now }
+    requires placed { (b : ℕ) → IsPlacedDriver places.now row.now.items
+        (driver_at (parts_of gold.now) b) }
     ensures { OnOk result (Gains edges.old.items edges.new.items (FreeVisits (parts_of gold.now)
-        (values paired.now) places.now (bits_of gold.now.nets))) }
+        (values paired.now) places.now row.now.items (bits_of gold.now.nets))) }
 {
     for b in 0..paired.len() {
         if !paired[b] {
-            push_driven(b, driver_at(gold, b), places, edges)?;
+            push_driven(b, driver_at(gold, b), places, row, edges)?;
         }
     }
     Ok(())
@@ -217,16 +165,17 @@ fn push_pair(
     bit: usize,
     driver: Driver,
     places: &[usize],
+    row: &Vec<usize>,
     edges: &mut Vec<Edge>,
 ) -> Result<(), Memory>
-    requires { IsPlacedDriver places.now driver }
+    requires { IsPlacedDriver places.now row.now.items driver }
     ensures { OnOk result (Gains edges.old.items edges.new.items
-        (OneVisits input part bit driver places.now)) }
+        (OneVisits input part bit driver places.now row.now.items)) }
 {
     if input {
         return Ok(());
     }
-    push_driven(part, driver, places, edges)?;
+    push_driven(part, driver, places, row, edges)?;
     push_edge(bit, part, edges)
 }
 
@@ -237,61 +186,87 @@ fn push_pairs(
     leaders: &[u32],
     starts: &[usize],
     places: &[usize],
+    row: &Vec<usize>,
     edges: &mut Vec<Edge>,
 ) -> Result<(), Memory>
     requires led { AreLed (parts_of gold.now) pairs.now leaders.now }
     requires starts { BeginAt gold.now.nets starts.now }
     requires few { bits_of gold.now.nets < 2 ^ 32 }
-    requires places { ArePlaces (parts_of gold.now).words (number_at places.now 0) places.now }
+    requires placed { (b : ℕ) → IsPlacedDriver places.now row.now.items
+        (driver_at (parts_of gold.now) b) }
     ensures { OnOk result (Gains edges.old.items edges.new.items (PairsVisit (parts_of gold.now)
-        pairs.now leaders.now places.now (length pairs.now))) }
+        pairs.now leaders.now places.now row.now.items (length pairs.now))) }
 {
     for i in 0..pairs.len() {
         let bit = gold_bit(gold, pairs, i, starts);
         let part = gold.drivers.len() + leaders[i] as usize;
         let input = pair_at(pairs, i).input;
-        push_pair(input, part, bit, driver_at(gold, bit), places, edges)?;
+        push_pair(input, part, bit, driver_at(gold, bit), places, row, edges)?;
     }
     Ok(())
 }
 
-/// The edges.
-fn edges_of(
-    alloc: Global,
+/// Adds the edges of pairs and of the bits that are in none.
+fn draw(
     gold: &Net,
     pairs: &[Pair],
     leaders: &[u32],
     starts: &[usize],
     places: &[usize],
+    row: &Vec<usize>,
     paired: &[bool],
-) -> Result<Vec<Edge>, Memory>
+    edges: &mut Vec<Edge>,
+) -> Result<(), Memory>
     requires led { AreLed (parts_of gold.now) pairs.now leaders.now }
     requires starts { BeginAt gold.now.nets starts.now }
-    requires places { ArePlaces (parts_of gold.now).words
-        (bits_of gold.now.nets + length pairs.now) places.now }
+    requires few { bits_of gold.now.nets < 2 ^ 32 }
+    requires placed { (b : ℕ) → IsPlacedDriver places.now row.now.items
+        (driver_at (parts_of gold.now) b) }
     requires size { length paired.now ≡ bits_of gold.now.nets }
-    requires paired { (b : ℕ) → b < bits_of gold.now.nets →
-        (values paired.now b ≡ false) ↔ Unpaired (parts_of gold.now) pairs.now b }
-    ensures { IfOk result (λ edges.
-        AreVisits (parts_of gold.now) pairs.now leaders.now places.now edges.items) }
+    ensures { OnOk result (Gains edges.old.items edges.new.items (DrawnVisits (parts_of gold.now)
+        pairs.now leaders.now (values paired.now) places.now row.now.items)) }
 {
-    let mut edges = Vec::new(alloc);
-    push_words(gold, starts, places, &mut edges)?;
-    push_pairs(gold, pairs, leaders, starts, places, &mut edges)?;
-    push_free(gold, paired, places, &mut edges)?;
-    Ok(edges)
+    push_pairs(gold, pairs, leaders, starts, places, row, edges)?;
+    push_free(gold, paired, places, row, edges)?;
+    Ok(())
+}
+
+/// The node that leads to nothing, behind the first ones.
+fn no_nodes(alloc: Global, first: usize) -> Result<Nodes, Memory>
+    ensures are { IfOk result (λ nodes. AreNodes nodes) }
+    ensures none { IfOk result (λ nodes. nodes.none ≡ first) }
+{
+    let next = add(first, 1)?;
+    let edges = Vec::new(alloc);
+    Ok(Nodes {
+        edges,
+        none: first,
+        next,
+    })
 }
 
 /// The graph.
-pub fn graph_of(alloc: Global, gold: &Net, pairs: &[Pair], leaders: &[u32]) -> Result<Graph, Memory>
+pub fn graph_of(alloc: Global, gold: &Net, pairs: &[Pair], leaders: &[u32]) -> Result<Nodes, Memory>
     requires { AreLed (parts_of gold.now) pairs.now leaders.now }
     ensures { IfOk result (λ g.
-        AreVisits (parts_of gold.now) pairs.now leaders.now g.places.items g.edges.items) }
+        AreVisits (parts_of gold.now) pairs.now leaders.now g.edges.items g.next) }
 {
     let starts = starts(alloc, gold.nets.as_slice())?;
-    let first = add(gold.drivers.len(), pairs.len())?;
-    let places = places(alloc, gold.words.as_slice(), first)?;
     let paired = paired(alloc, gold, pairs, &starts)?;
-    let edges = edges_of(alloc, gold, pairs, leaders, &starts, &places, &paired)?;
-    Ok(Graph { edges, places })
+    let first = add(gold.drivers.len(), pairs.len())?;
+    let mut nodes = no_nodes(alloc, first)?;
+    let mut places = Vec::new(alloc);
+    let mut row = Vec::new(alloc);
+    push_words(gold, &starts, &mut places, &mut nodes, &mut row)?;
+    draw(
+        gold,
+        pairs,
+        leaders,
+        &starts,
+        &places,
+        &row,
+        &paired,
+        &mut nodes.edges,
+    )?;
+    Ok(nodes)
 }

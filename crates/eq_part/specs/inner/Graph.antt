@@ -23,17 +23,17 @@ pub record Joins (edges : List Edge) (a b : ℕ) : Type 0 where
   pub starts : from_at edges edge ≡ a
   pub ends : to_at edges edge ≡ b
 
--- a chain of n edges leads from a to b
-abbrev pub Chain : List Edge → ℕ → ℕ → ℕ → Type 0
-Chain edges zero a b = a ≡ b
-Chain edges (suc n) a b = (c : ℕ) × Chain edges n a c × Joins edges c b
+-- a chain of n steps leads from a to b
+abbrev pub Chain : (ℕ → ℕ → Type 0) → ℕ → ℕ → ℕ → Type 0
+Chain J zero a b = a ≡ b
+Chain J (suc n) a b = (c : ℕ) × Chain J n a c × J c b
 
 -- a chain of edges leads from a marked node to this one
 pub record IsReached (edges : List Edge) (roots : List Bool) (v : ℕ) : Type 0 where
   pub root : ℕ
   pub marked : values roots root ≡ true
   pub steps : ℕ
-  pub chain : Chain edges steps root v
+  pub chain : Chain (Joins edges) steps root v
 
 -- the edges are between the first n numbers
 pub record AreBetween (n : ℕ) (edges : List Edge) : Type 0 where

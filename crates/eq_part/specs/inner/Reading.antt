@@ -1,17 +1,17 @@
 -- Cited by proofs alone; nothing here has to be believed.
--- The reads of a word as edges, to bits of the nets and to bits of earlier words.
-use Rattle.std.specs.Prelude.{◌≡◌, ℕ, suc, ◌+◌, ◌<◌, ◌≤◌, ◌⊎◌, ◌==◌, if◌then◌else◌, List, [], ◌∷◌, All, Contains, false, length}
+-- What bits of words read, and the nodes of words.
+use Rattle.std.specs.Prelude.{◌≡◌, ℕ, ◌+◌, ◌<◌, ◌≤◌, ◌⊎◌, ◌↔◌, List, [], Contains, length, slice_index_or}
+use Rattle.eq_names.specs.declared.BitName.{BitName}
 use Rattle.eq_net.specs.declared.types.NetInfo.{NetInfo}
 use Rattle.eq_net.specs.declared.types.WordBit.{WordBit}
-use Rattle.eq_net.specs.declared.types.WordOp.{WordOp}
-use Rattle.eq_net.specs.declared.types.WordOp.TheVariants as op
-use Rattle.eq_net.specs.Operators.{Reads, has_free_sizes}
-use Rattle.eq_net.specs.Meaning.{reads_of, width}
-use Rattle.eq_net.specs.Net.{HasBit, number_of, offset}
-use Rattle.eq_net.specs.Tree.{Tree, const, read, pick, negated, opposite, binary, reduced, choice, empty, joined, extended}
+use Rattle.eq_net.specs.Operators.{Reads}
+use Rattle.eq_net.specs.Meaning.{reads_of, table, width}
+use Rattle.eq_net.specs.Net.{Parts, bits_of, number_of, offset, word_at}
+use Rattle.eq_net.specs.Tree.{Tree}
 use Rattle.eq_part.specs.declared.reached.Edge.{Edge}
-use Rattle.eq_part.specs.declared.ranges.Ranges.{Ranges}
+use Rattle.eq_part.specs.declared.nodes.Nodes.{Nodes}
 use Rattle.eq_part.specs.inner.Graph.{Joins}
+use Rattle.eq_part.specs.inner.Leading.{AreNodes, AreThere, LeadsTo, RowGrew}
 use Rattle.eq_part.specs.inner.Walking.{number_at}
 
 -- one of the positions from low up to high reads b
@@ -32,55 +32,50 @@ pub record BeginAt (nets : List NetInfo) (starts : List ℕ) : Type 0 where
   pub count : length starts ≡ length nets
   pub each : (k : ℕ) → k < length nets → number_at starts k ≡ offset nets k
 
--- the bit of an earlier word has a number below those of the next word
-abbrev pub IsPlaced : List ℕ → WordBit → Type 0
-IsPlaced places b = (suc b.word < length places) ×
-    (number_at places b.word + b.bit < number_at places (suc b.word))
+-- what bits of words read, each from what those of the first k words read
+abbrev pub reads_before : Parts → ℕ → ℕ → ℕ → List ℕ
+reads_before gold k = table [] (reads_of (number_of gold.nets)) gold.words k
 
--- what the word reads is there, and the sizes of its operands agree
-abbrev pub Fits : List NetInfo → List ℕ → Tree → Type 0
-Fits nets places (const bits) = Unit {0}
-Fits nets places (read names) = All (HasBit nets) names
-Fits nets places (pick bits) = All (IsPlaced places) bits
-Fits nets places (negated a) = Fits nets places a
-Fits nets places (opposite a) = Fits nets places a
-Fits nets places (binary o a b) = Fits nets places a × Fits nets places b × (has_free_sizes o ≡ false → width a ≡ width b)
-Fits nets places (reduced o a) = Fits nets places a
-Fits nets places (choice c a b) = Fits nets places c × Fits nets places a × Fits nets places b × (width a ≡ width b)
-Fits nets places empty = Unit {0}
-Fits nets places (joined a b) = Fits nets places a × Fits nets places b
-Fits nets places (extended a n) = Fits nets places a × (width a ≤ n)
+abbrev pub reads_at : Parts → ℕ → ℕ → List ℕ
+reads_at gold w j = reads_of (number_of gold.nets) (reads_before gold w) (word_at gold.words w) j
 
--- what bits of a word read: bits of the nets by their numbers, bits of earlier words by theirs
-abbrev pub direct_reads : List NetInfo → List ℕ → Tree → Reads
-direct_reads nets places t = reads_of (number_of nets) (λ w j. (number_at places w + j) ∷ []) t
+-- the node of a named bit
+abbrev pub no_name : BitName
+no_name = record { net = 0; bit = 0 }
 
--- what the positions from low up to high of an operation read of its operands, of m and n bits
-abbrev pub ranges : ℕ → ℕ → ℕ → ℕ → Ranges
-ranges a b c d = record { left_low = a; left_high = b; right_low = c; right_high = d }
+abbrev pub named_at : List NetInfo → List BitName → ℕ → ℕ
+named_at nets names j = number_of nets (slice_index_or names j no_name)
 
--- all of both where the lowest position is among them
-abbrev pub all_ranges : ℕ → ℕ → ℕ → Ranges
-all_ranges low m n = if low == 0 then ranges 0 m 0 n else ranges 0 0 0 0
+-- the node of a bit of an earlier word, where the row has the nodes of all words, and the list says where those of each begin
+abbrev pub no_bit : WordBit
+no_bit = record { word = 0; bit = 0 }
 
-abbrev pub ranges_of : WordOp → ℕ → ℕ → ℕ → ℕ → Ranges
-ranges_of op.And m n low high = ranges low high low high
-ranges_of op.Or m n low high = ranges low high low high
-ranges_of op.Xor m n low high = ranges low high low high
-ranges_of op.Xnor m n low high = ranges low high low high
-ranges_of op.Add m n low high = ranges 0 high 0 high
-ranges_of op.Sub m n low high = ranges 0 high 0 high
-ranges_of op.Shl m n low high = ranges 0 high 0 n
-ranges_of op.Shr m n low high = ranges low m 0 n
-ranges_of op.Eq m n low high = all_ranges low m n
-ranges_of op.Ne m n low high = all_ranges low m n
-ranges_of op.Lt m n low high = all_ranges low m n
-ranges_of op.Le m n low high = all_ranges low m n
-ranges_of op.Gt m n low high = all_ranges low m n
-ranges_of op.Ge m n low high = all_ranges low m n
-ranges_of op.LogAnd m n low high = all_ranges low m n
-ranges_of op.LogOr m n low high = all_ranges low m n
+abbrev pub picked_node : List ℕ → List ℕ → WordBit → ℕ
+picked_node places row b = number_at row (number_at places b.word + b.bit)
 
--- all of a word of n bits where its lowest position is asked for
-abbrev pub top : ℕ → ℕ → ℕ
-top low n = if low == 0 then n else 0
+abbrev pub picked_at : List ℕ → List ℕ → List WordBit → ℕ → ℕ
+picked_at places row bits j = picked_node places row (slice_index_or bits j no_bit)
+
+-- the bit's node is there
+abbrev pub IsPlaced : List ℕ → List ℕ → WordBit → Type 0
+IsPlaced places row b = (b.word < length places) × (number_at places b.word + b.bit < length row)
+
+-- the bit's node leads to what the bit reads
+pub record IsTold (gold : Parts) (places : List ℕ) (s : Nodes) (row : List ℕ) (w j : ℕ) : Type 0 where
+  pub there : number_at places w + j < length row
+  pub leads : (c : ℕ) → LeadsTo s (number_at row (number_at places w + j)) c ↔ Contains (reads_at gold w j) c
+
+-- the row has the nodes of the first words
+pub record IsReady (gold : Parts) (places : List ℕ) (s : Nodes) (row : List ℕ) : Type 0 where
+  pub are : AreNodes s
+  pub there : AreThere s row
+  pub low : bits_of gold.nets ≤ s.none
+  pub told : (w j : ℕ) → w < length places → j < width (word_at gold.words w) → IsTold gold places s row w j
+
+-- what position j of a tree reads, as the next word
+abbrev pub TreeReads : Parts → ℕ → Tree → ℕ → ℕ → Type 0
+TreeReads gold k t j c = Contains (reads_of (number_of gold.nets) (reads_before gold k) t j) c
+
+-- the nodes of a tree were put behind those of the words before it
+abbrev pub WordGrew : Parts → List ℕ → Nodes → List ℕ → Nodes → List ℕ → Tree → Type 0
+WordGrew gold places s row now after t = RowGrew s row now after (length row) (width t) (TreeReads gold (length places) t)

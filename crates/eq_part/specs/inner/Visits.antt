@@ -1,20 +1,20 @@
 -- Cited by proofs alone; nothing here has to be believed.
 -- The graph of a walk against the reads. Its nodes are the bits that are read, by their numbers, behind them the positions, of
--- which leaders stand for partitions, and behind these the bits of words.
-use Rattle.std.specs.Prelude.{◌≡◌, ◌≢◌, ℕ, suc, ◌+◌, ◌<◌, ◌⊎◌, Bool, true, false, List, Contains, length}
+-- which leaders stand for partitions, and behind these the inner nodes of words.
+use Rattle.std.specs.Prelude.{◌≡◌, ◌≢◌, ℕ, ◌+◌, ◌<◌, ◌≤◌, ◌⊎◌, Bool, true, false, List, length}
 use Rattle.eq_model.specs.Frames.{values}
+use Rattle.eq_model.specs.System.{ReadsEver}
 use Rattle.eq_net.specs.declared.types.Driver.{Driver}
 use Rattle.eq_net.specs.declared.types.Driver.TheVariants.{Input, Undriven, Expr as WordOf, Reg}
-use Rattle.eq_net.specs.Meaning.{width}
-use Rattle.eq_net.specs.Net.{HasBit, Parts, bits_of, driver_at, word_at}
-use Rattle.eq_net.specs.Tree.{Tree}
+use Rattle.eq_net.specs.Net.{HasBit, Parts, bits_of, driver_at, system_of}
 use Rattle.eq_match.specs.declared.types.Pair.{Pair}
 use Rattle.eq_match.specs.Groups.{is_held}
 use Rattle.eq_match.specs.Pairs.{pair_at}
 use Rattle.eq_match.specs.Matched.{gold_bit}
 use Rattle.eq_part.specs.declared.reached.Edge.{Edge}
-use Rattle.eq_part.specs.inner.Graph.{Chain, Joins}
-use Rattle.eq_part.specs.inner.Reading.{IsPlaced, direct_reads}
+use Rattle.eq_part.specs.inner.Graph.{AreBetween, Chain, Joins}
+use Rattle.eq_part.specs.inner.Leading.{Leads}
+use Rattle.eq_part.specs.inner.Reading.{IsPlaced, picked_node}
 use Rattle.eq_part.specs.inner.Walking.{number_at}
 
 -- edges were added, those of which P holds
@@ -23,19 +23,12 @@ pub record Gains (edges after : List Edge) (P : ℕ → ℕ → Type 0) : Type 0
   pub there : (a b : ℕ) → P a b → Joins after a b
   pub only : (a b : ℕ) → Joins after a b → Joins edges a b ⊎ P a b
 
--- the list says where the bits of each word begin, from a first number on, and where they end
-pub record ArePlaces (words : List Tree) (first : ℕ) (places : List ℕ) : Type 0 where
-  pub count : length places ≡ suc (length words)
-  pub begin : number_at places 0 ≡ first
-  pub next : (w : ℕ) → w < length words →
-      number_at places (suc w) ≡ number_at places w + width (word_at words w)
-
--- a driver's bit of a word has this number
-abbrev pub IsWordBit : List ℕ → Driver → ℕ → Type 0
-IsWordBit places Input x = ⊥
-IsWordBit places Undriven x = ⊥
-IsWordBit places (WordOf w j) x = x ≡ number_at places w + j
-IsWordBit places (Reg init w j) x = x ≡ number_at places w + j
+-- a driver's bit of a word has this node
+abbrev pub IsWordBit : List ℕ → List ℕ → Driver → ℕ → Type 0
+IsWordBit places row Input x = ⊥
+IsWordBit places row Undriven x = ⊥
+IsWordBit places row (WordOf w j) x = x ≡ picked_node places row (record { word = w; bit = j })
+IsWordBit places row (Reg init w j) x = x ≡ picked_node places row (record { word = w; bit = j })
 
 -- no pair has the bit
 abbrev pub Unpaired : Parts → List Pair → ℕ → Type 0
@@ -45,22 +38,13 @@ Unpaired gold pairs b = (i : ℕ) → i < length pairs → gold_bit gold pairs i
 abbrev pub part_node : Parts → List ℕ → ℕ → ℕ
 part_node gold leaders i = bits_of gold.nets + number_at leaders i
 
--- bit j of word w leads to what it reads
-pub record WordVisits (gold : Parts) (places : List ℕ) (a b : ℕ) : Type 0 where
-  pub word : ℕ
-  pub word_there : word < length gold.words
-  pub bit : ℕ
-  pub bit_there : bit < width (word_at gold.words word)
-  pub is : a ≡ number_at places word + bit
-  pub reads : Contains (direct_reads gold.nets places (word_at gold.words word) bit) b
-
--- a partition leads to what drives its outputs
-pub record PartVisits (gold : Parts) (pairs : List Pair) (leaders places : List ℕ) (a b : ℕ) : Type 0 where
+-- a partition leads to what its outputs read
+pub record PartVisits (gold : Parts) (pairs : List Pair) (leaders : List ℕ) (a b : ℕ) : Type 0 where
   pub output : ℕ
   pub there : output < length pairs
   pub held : is_held pairs output ≡ true
   pub is : a ≡ part_node gold leaders output
-  pub driven : IsWordBit places (driver_at gold (gold_bit gold pairs output)) b
+  pub reads : ReadsEver (system_of gold) (gold_bit gold pairs output) b
 
 -- a read output leads to its partition
 pub record OutputVisits (gold : Parts) (pairs : List Pair) (leaders : List ℕ) (a b : ℕ) : Type 0 where
@@ -70,15 +54,14 @@ pub record OutputVisits (gold : Parts) (pairs : List Pair) (leaders : List ℕ) 
   pub is : a ≡ gold_bit gold pairs output
   pub part : b ≡ part_node gold leaders output
 
--- a read bit that is in no pair leads to what drives it
-pub record BitVisits (gold : Parts) (pairs : List Pair) (places : List ℕ) (a b : ℕ) : Type 0 where
+-- a read bit that is in no pair leads to what it reads
+pub record BitVisits (gold : Parts) (pairs : List Pair) (a b : ℕ) : Type 0 where
   pub there : a < bits_of gold.nets
   pub unpaired : Unpaired gold pairs a
-  pub driven : IsWordBit places (driver_at gold a) b
+  pub reads : ReadsEver (system_of gold) a b
 
-abbrev pub Visits : Parts → List Pair → List ℕ → List ℕ → ℕ → ℕ → Type 0
-Visits gold pairs leaders places a b = WordVisits gold places a b ⊎
-    (PartVisits gold pairs leaders places a b ⊎ (OutputVisits gold pairs leaders a b ⊎ BitVisits gold pairs places a b))
+abbrev pub Visits : Parts → List Pair → List ℕ → ℕ → ℕ → Type 0
+Visits gold pairs leaders a b = PartVisits gold pairs leaders a b ⊎ (OutputVisits gold pairs leaders a b ⊎ BitVisits gold pairs a b)
 
 -- the pairs have bits of gold, no two the same, and the leaders are positions
 pub record AreLed (gold : Parts) (pairs : List Pair) (leaders : List ℕ) : Type 0 where
@@ -87,25 +70,24 @@ pub record AreLed (gold : Parts) (pairs : List Pair) (leaders : List ℕ) : Type
   pub count : length leaders ≡ length pairs
   pub led : (i : ℕ) → i < length pairs → number_at leaders i < length pairs
 
--- the edges are those of the graph
-pub record AreVisits (gold : Parts) (pairs : List Pair) (leaders places : List ℕ) (edges : List Edge) : Type 0 where
-  pub placed : ArePlaces gold.words (bits_of gold.nets + length pairs) places
-  pub there : (a b : ℕ) → Visits gold pairs leaders places a b → Joins edges a b
-  pub only : (a b : ℕ) → Joins edges a b → Visits gold pairs leaders places a b
+-- the number of the bits and positions, and so that of the node behind theirs, which leads to nothing
+abbrev pub outer : Parts → List Pair → ℕ
+outer gold pairs = bits_of gold.nets + length pairs
 
--- the driver's bit of a word has a number below those of the next word
-abbrev pub IsPlacedDriver : List ℕ → Driver → Type 0
-IsPlacedDriver places Input = Unit {0}
-IsPlacedDriver places Undriven = Unit {0}
-IsPlacedDriver places (WordOf w j) = IsPlaced places (record { word = w; bit = j })
-IsPlacedDriver places (Reg init w j) = IsPlaced places (record { word = w; bit = j })
+-- through inner nodes the edges lead from bits and partitions to what these visit
+pub record AreVisits (gold : Parts) (pairs : List Pair) (leaders : List ℕ) (edges : List Edge) (nodes : ℕ) : Type 0 where
+  pub room : outer gold pairs ≤ nodes
+  pub between : AreBetween nodes edges
+  pub none : (b : ℕ) → ¬ Joins edges (outer gold pairs) b
+  pub there : (a b : ℕ) → Visits gold pairs leaders a b → (x : ℕ) × Joins edges a x × Leads edges (outer gold pairs) x b
+  pub only : (a x b : ℕ) → a < outer gold pairs → Joins edges a x → Leads edges (outer gold pairs) x b → Visits gold pairs leaders a b
 
--- the bits of a word whose numbers begin at `place` lead to what they read
-pub record BitsVisit (gold : Parts) (places : List ℕ) (t : Tree) (place a b : ℕ) : Type 0 where
-  pub bit : ℕ
-  pub bit_there : bit < width t
-  pub is : a ≡ place + bit
-  pub reads : Contains (direct_reads gold.nets places t bit) b
+-- the node of the driver's bit of a word is there
+abbrev pub IsPlacedDriver : List ℕ → List ℕ → Driver → Type 0
+IsPlacedDriver places row Input = Unit {0}
+IsPlacedDriver places row Undriven = Unit {0}
+IsPlacedDriver places row (WordOf w j) = IsPlaced places row (record { word = w; bit = j })
+IsPlacedDriver places row (Reg init w j) = IsPlaced places row (record { word = w; bit = j })
 
 -- the nodes of partitions that have an output of which the test says yes
 pub record IsRoot (gold : Parts) (pairs : List Pair) (leaders : List ℕ) (hits : ℕ → Bool) (x : ℕ) : Type 0 where
@@ -116,22 +98,27 @@ pub record IsRoot (gold : Parts) (pairs : List Pair) (leaders : List ℕ) (hits 
   pub is : x ≡ part_node gold leaders output
 
 -- the edges of a pair: none for inputs
-abbrev pub OneVisits : Bool → ℕ → ℕ → Driver → List ℕ → ℕ → ℕ → Type 0
-OneVisits input part bit driver places a b = (input ≡ false) ×
-    (((a ≡ part) × IsWordBit places driver b) ⊎ ((a ≡ bit) × (b ≡ part)))
+abbrev pub OneVisits : Bool → ℕ → ℕ → Driver → List ℕ → List ℕ → ℕ → ℕ → Type 0
+OneVisits input part bit driver places row a b = (input ≡ false) ×
+    (((a ≡ part) × IsWordBit places row driver b) ⊎ ((a ≡ bit) × (b ≡ part)))
 
 -- the edges of the first k pairs
-pub record PairsVisit (gold : Parts) (pairs : List Pair) (leaders places : List ℕ) (k a b : ℕ) : Type 0 where
+pub record PairsVisit (gold : Parts) (pairs : List Pair) (leaders places row : List ℕ) (k a b : ℕ) : Type 0 where
   pub pair : ℕ
   pub before : pair < k
   pub visits : OneVisits (pair_at pairs pair).input (part_node gold leaders pair) (gold_bit gold pairs pair)
-      (driver_at gold (gold_bit gold pairs pair)) places a b
+      (driver_at gold (gold_bit gold pairs pair)) places row a b
 
 -- of the first k bits those of which the test says no lead to what drives them
-pub record FreeVisits (gold : Parts) (paired : ℕ → Bool) (places : List ℕ) (k a b : ℕ) : Type 0 where
+pub record FreeVisits (gold : Parts) (paired : ℕ → Bool) (places row : List ℕ) (k a b : ℕ) : Type 0 where
   pub before : a < k
   pub free : paired a ≡ false
-  pub driven : IsWordBit places (driver_at gold a) b
+  pub driven : IsWordBit places row (driver_at gold a) b
+
+-- the edges of all pairs and of the bits of which the test says no
+abbrev pub DrawnVisits : Parts → List Pair → List ℕ → (ℕ → Bool) → List ℕ → List ℕ → ℕ → ℕ → Type 0
+DrawnVisits gold pairs leaders paired places row a b = PairsVisit gold pairs leaders places row (length pairs) a b ⊎
+    FreeVisits gold paired places row (bits_of gold.nets) a b
 
 -- a chain of edges leads from such a node to this one
 pub record IsWalked (gold : Parts) (pairs : List Pair) (leaders : List ℕ)
@@ -139,7 +126,7 @@ pub record IsWalked (gold : Parts) (pairs : List Pair) (leaders : List ℕ)
   pub root : ℕ
   pub root_is : IsRoot gold pairs leaders hits root
   pub steps : ℕ
-  pub chain : Chain edges steps root x
+  pub chain : Chain (Joins edges) steps root x
 
 -- position i is held, and both walks marked its partition
 abbrev pub IsPassed : Parts → List Pair → List ℕ → List Bool → List Bool → ℕ → Type 0

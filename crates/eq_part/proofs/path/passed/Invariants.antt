@@ -7,5 +7,6 @@ use Rattle.eq_part.proofs.path.passed.Given as goal
 abbrev pub invariant-loop-i : goal.invariant-loop-i
 invariant-loop-i l = record {
   size : length l.bits ≡ l.i;
-  told : (k : ℕ) → k < l.i → (values l.bits k ≡ true) ↔ IsPassed (parts_of l.gold) l.pairs l.leaders l.before l.behind k;
+  told : (k : ℕ) → k < l.i → (values l.bits k ≡ true) ↔ IsPassed (parts_of l.gold) l.pairs l.leaders l.before l.behind
+      k;
 }

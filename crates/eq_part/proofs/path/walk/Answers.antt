@@ -16,6 +16,8 @@ returns-clause-ok c = λ x. (
     let both = c.in_ok-marks.ensures.ok x in
     let P : List Bool → Type 0 = λ ms. IsReached edges ms x in
     let is = c.deref.ensures.value in (
-      λ marked. reached_walked gold pairs leaders hits edges roots (λ y m. (c.in_ok-roots.ensures.ok y).0 m) x (subst P is (both.0 marked)),
-      λ walked. both.1 (subst P (sym is) (walked_reached gold pairs leaders hits edges roots (λ y r. (c.in_ok-roots.ensures.ok y).1 r) x walked)),
+      λ marked. reached_walked gold pairs leaders hits edges roots (λ y m. (c.in_ok-roots.ensures.ok y).0 m) x
+          (subst P is (both.0 marked)),
+      λ walked. both.1 (subst P (sym is) (walked_reached gold pairs leaders hits edges roots
+          (λ y r. (c.in_ok-roots.ensures.ok y).1 r) x walked)),
     ))

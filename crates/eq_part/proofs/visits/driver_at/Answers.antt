@@ -10,4 +10,5 @@ returns c =
     let count = c.args.gold.now.is_net.one_driver in
     let b = c.args.b in
     let lt = c.requires in
-    ap (λ (ds : List Driver). slice_index_or ds b Input) c.as_slice.ensures ∙ get_or_default drivers b Input Undriven (omega arith)
+    ap (λ (ds : List Driver). slice_index_or ds b Input) c.as_slice.ensures ∙ get_or_default drivers b Input Undriven
+    (omega arith)

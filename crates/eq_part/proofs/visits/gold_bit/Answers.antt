@@ -11,6 +11,7 @@ returns-clause-there c =
     let nets = c.args.gold.now.nets in
     let bit = (pair_at c.args.pairs.now c.args.i).gold in
     let there = named_there nets bit c.requires.there in
-    let is : c.named.result ≡ number_of nets bit = c.named.ensures ∙ ap (λ (ns : List NetInfo). number_of ns c.pair_at.result.gold) c.as_slice.ensures
+    let is : c.named.result ≡ number_of nets bit = c.named.ensures ∙ ap (λ (ns : List NetInfo). number_of ns
+    c.pair_at.result.gold) c.as_slice.ensures
     ∙ ap (λ (p : Pair). number_of nets p.gold) c.pair_at.ensures in
     omega arith

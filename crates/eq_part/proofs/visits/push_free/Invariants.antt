@@ -4,4 +4,5 @@ use Rattle.eq_part.specs.inner.Visits.{FreeVisits, Gains}
 use Rattle.eq_part.proofs.visits.push_free.Given as goal
 
 abbrev pub invariant-loop-b : goal.invariant-loop-b
-invariant-loop-b l = Gains l.fn.edges.items l.edges.items (FreeVisits (parts_of l.gold) (values l.paired) l.places l.b)
+invariant-loop-b l = Gains l.fn.edges.items l.edges.items (FreeVisits (parts_of l.gold) (values l.paired) l.places
+    l.row.items l.b)

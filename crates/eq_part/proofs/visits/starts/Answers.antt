@@ -10,7 +10,8 @@ offset_le (x ∷ xs) (suc k) = (let h = offset_le xs k in omega arith)
 
 pub overflow_add-next : goal.overflow_add-next
 overflow_add-next c =
-    let e = c.bits_stand_by_nets.ensures.next c.args.nets.now c.loop-net.net-index c.net-item.result c.loop-net-test.true c.net-item.is in
+    let e = c.bits_stand_by_nets.ensures.next c.args.nets.now c.loop-net.net-index c.net-item.result
+    c.loop-net-test.true c.net-item.is in
     let le = offset_le c.args.nets.now (c.loop-net.net-index + 1) in
     let w = c.width.ensures in
     let n = c.loop-net.invariant.next in
