@@ -111,6 +111,14 @@ fn is_part(part: &Part, wanted: &Wanted) -> bool {
         && are_outputs(part.outputs.as_slice(), wanted.outputs)
 }
 
+fn is_wanted(part: Option<Part>, wanted: &Wanted) -> bool {
+    match part {
+        Some(part) => is_part(&part, wanted),
+        None => false,
+    }
+}
+
+/// Whether the part of a row is as wanted, also when it is cut again.
 fn is_right(alloc: Global, row: &Row) -> Result<bool, Fail> {
     let (gold, gate, lines, i, wanted) = *row;
     let gold = design(alloc, gold)?;
@@ -121,10 +129,9 @@ fn is_right(alloc: Global, row: &Row) -> Result<bool, Fail> {
     if !have_same_ports(&gold, &gate) {
         return Ok(false);
     }
-    match part_of(alloc, &gold, &gate, &config, i)? {
-        Some(part) => Ok(is_part(&part, &wanted)),
-        None => Ok(false),
-    }
+    let once = is_wanted(part_of(alloc, &gold, &gate, &config, i)?, &wanted);
+    let again = is_wanted(part_of(alloc, &gold, &gate, &config, i)?, &wanted);
+    Ok(once && again)
 }
 
 /// The first row with another part.
