@@ -10,10 +10,10 @@ use Rattle.eq_proof.specs.Sets.{IsFalse, IsFalsified, IsUnit}
 use Rattle.eq_proof.specs.Fresh.{IsSettled, IsFresh}
 use Rattle.eq_proof.proofs.Before.{get_left}
 use Rattle.eq_proof.proofs.Negations.{negation_twice}
-use Rattle.eq_cdcl.specs.Assignment.{Assignment, cut_to}
-use Rattle.eq_cdcl.specs.Sound.{AreApart, IsExplained, IsSound}
-use Rattle.eq_cdcl.specs.Resolved.{marked, opens}
-use Rattle.eq_cdcl.specs.Asserting.{Keeps, Settles, IsAsserting, Asserts}
+use Rattle.eq_cdcl.specs.inner.Assignment.{Assignment, cut_to}
+use Rattle.eq_cdcl.specs.inner.Sound.{AreApart, IsExplained, IsSound}
+use Rattle.eq_cdcl.specs.inner.Resolved.{marked, opens}
+use Rattle.eq_cdcl.specs.inner.Asserting.{Keeps, Settles, IsAsserting, Asserts}
 use Rattle.eq_cdcl.specs.inner.Teaching.{IsSecond}
 use Rattle.eq_cdcl.specs.declared.trail.Reason.{Reason}
 use Rattle.eq_cdcl.specs.declared.trail.Reason.TheVariants.{Decision, Implied}

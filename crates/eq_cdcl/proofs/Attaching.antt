@@ -5,8 +5,8 @@ use Rattle.std.proofs.lemmas.List.{length_push, get_or_past}
 use Rattle.std.proofs.lemmas.Bool.{cases_lt}
 use Rattle.std.proofs.lemmas.Option.{slice_get_within}
 use Rattle.eq_proof.specs.Literal.{Literal, code_of}
-use Rattle.eq_cdcl.specs.Assignment.{Assignment}
-use Rattle.eq_cdcl.specs.Slots.{IsProper}
+use Rattle.eq_cdcl.specs.inner.Assignment.{Assignment}
+use Rattle.eq_cdcl.specs.inner.Slots.{IsProper}
 use Rattle.eq_cdcl.specs.inner.Watched.{StaysTrue, IsListed, IsQuietFor, IsMinded, IsEntry, IsWatched, IsAttached}
 use Rattle.eq_cdcl.specs.declared.watches.Pair.{Pair}
 use Rattle.eq_cdcl.specs.declared.watches.Watch.{Watch}

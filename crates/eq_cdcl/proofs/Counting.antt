@@ -3,7 +3,7 @@ use Rattle.std.proofs.Common.{◌≡◌, ℕ, ◌+◌, ◌<◌, ◌≤◌, suc, 
 use Rattle.std.specs.Prelude.{nat_le}
 use Rattle.std.proofs.lemmas.Bool.{cases_eq}
 use Rattle.std.proofs.lemmas.Bool.Decides.{nat_tests}
-use Rattle.eq_cdcl.specs.Resolved.{marked, opens}
+use Rattle.eq_cdcl.specs.inner.Resolved.{marked, opens}
 
 -- what one place adds
 one : (start place : ℕ) (b : Bool) → cond {A = ℕ} (nat_le start place) (cond {A = ℕ} b 1 0) 0 ≤ 1

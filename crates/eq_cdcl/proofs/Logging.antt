@@ -11,12 +11,13 @@ use Rattle.eq_proof.specs.Assigned.{AllBelow}
 use Rattle.eq_proof.specs.Derivation.{IsDerivation, clauses_before, DerivesAt, AllDerive, EndsEmpty}
 use Rattle.eq_proof.specs.Fresh.{IsFresh, FreshAt}
 use Rattle.eq_proof.proofs.Checking.{clause_at}
-use Rattle.eq_cdcl.specs.Knowledge.{known_of}
+use Rattle.eq_cdcl.specs.inner.Knowledge.{known_of, IsLogged}
 use Rattle.std.proofs.Math.ListN.{replicate}
-use Rattle.eq_cdcl.specs.Resolved.{marked}
-use Rattle.eq_cdcl.specs.Judged.{IsLive}
-use Rattle.eq_cdcl.specs.Halting.{AllHaveValues, GivesValues, value_in}
-use Rattle.eq_cdcl.specs.Logged.{HasLiteralsAt, FreshBelow, IsLogged}
+use Rattle.eq_cdcl.specs.inner.Resolved.{marked}
+use Rattle.eq_cdcl.specs.inner.Judged.{IsLive}
+use Rattle.eq_cdcl.specs.Halting.{value_in}
+use Rattle.eq_cdcl.specs.inner.Halting.{AllHaveValues, GivesValues}
+use Rattle.eq_cdcl.specs.Logged.{HasLiteralsAt, FreshBelow}
 use Rattle.eq_cdcl.proofs.Places.{push_last, push_old}
 
 pub logged_start : (clauses : List (List Literal)) → IsLogged clauses []

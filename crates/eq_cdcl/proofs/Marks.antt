@@ -10,10 +10,10 @@ use Rattle.eq_proof.specs.Sets.{IsFalsified, IsUnit}
 use Rattle.eq_proof.specs.Derivation.{HasNumber}
 use Rattle.eq_proof.specs.Fresh.{IsSettled}
 use Rattle.eq_proof.proofs.Lists.{All-at}
-use Rattle.eq_cdcl.specs.Assignment.{Assignment}
-use Rattle.eq_cdcl.specs.Slots.{HasVariable, IsAtPlace}
-use Rattle.eq_cdcl.specs.Sound.{AreApart, IsSound}
-use Rattle.eq_cdcl.specs.Resolved.{marked, opens, IsMarkedAt, MarksToo}
+use Rattle.eq_cdcl.specs.inner.Assignment.{Assignment}
+use Rattle.eq_cdcl.specs.inner.Slots.{HasVariable, IsAtPlace}
+use Rattle.eq_cdcl.specs.inner.Sound.{AreApart, IsSound}
+use Rattle.eq_cdcl.specs.inner.Resolved.{marked, opens, IsMarkedAt, MarksToo}
 use Rattle.eq_cdcl.specs.declared.trail.Reason.TheVariants.{Decision, Implied}
 use Rattle.eq_cdcl.proofs.Places.{member_place, taken_member, member_taken, same_place, element_at}
 use Rattle.eq_cdcl.proofs.Counting.{opens_some, opens_outside, opens_more, opens_hit}

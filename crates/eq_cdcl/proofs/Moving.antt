@@ -7,8 +7,8 @@ use Rattle.std.proofs.lemmas.List.{length-set}
 use Rattle.eq_proof.specs.Literal.{Literal, negation, code_of}
 use Rattle.eq_proof.specs.Sets.{IsFalse}
 use Rattle.eq_proof.proofs.Sorting.{same_code}
-use Rattle.eq_cdcl.specs.Assignment.{Assignment}
-use Rattle.eq_cdcl.specs.Slots.{IsProper}
+use Rattle.eq_cdcl.specs.inner.Assignment.{Assignment}
+use Rattle.eq_cdcl.specs.inner.Slots.{IsProper}
 use Rattle.eq_cdcl.specs.inner.Listing.{IsAdded, IsTakenOut}
 use Rattle.eq_cdcl.specs.inner.Watched.{StaysTrue, list_of, IsListed, IsQuietFor, IsOnWatch, IsMinded, IsEntry, IsWatched, HasLiteral, IsOther, IsAtEntry, IsMoved}
 use Rattle.eq_cdcl.specs.inner.Visiting.{IsSeen, IsVisiting, IsAnother, Visiting}

@@ -7,7 +7,7 @@ use Rattle.eq_proof.specs.Literal.{Literal, negation, literal_is}
 use Rattle.eq_proof.specs.Sets.{IsConsistent, HasNoValue}
 use Rattle.eq_proof.proofs.Trails.{same_variable}
 use Rattle.eq_proof.proofs.Negations.{negation_twice}
-use Rattle.eq_cdcl.specs.Halting.{AllHaveValues, GivesValues}
+use Rattle.eq_cdcl.specs.inner.Halting.{AllHaveValues, GivesValues}
 
 -- literals of one variable have a value or not
 no_value_too : (lits : List Literal) (l m : Literal) → l.var ≡ m.var → HasNoValue lits l → HasNoValue lits m

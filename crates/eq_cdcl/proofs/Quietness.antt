@@ -7,11 +7,11 @@ use Rattle.eq_proof.specs.Literal.{Literal, negation}
 use Rattle.eq_proof.specs.Sets.{IsConsistent, IsFalse, IsFalsified, IsUnit}
 use Rattle.eq_proof.proofs.Forcing.{member_or_not}
 use Rattle.eq_proof.proofs.Judging.{the_one, idle_true}
-use Rattle.eq_cdcl.specs.Assignment.{Assignment}
-use Rattle.eq_cdcl.specs.Slots.{IsProper}
-use Rattle.eq_cdcl.specs.Judged.{IsLive}
-use Rattle.eq_cdcl.specs.Sound.{IsSound}
-use Rattle.eq_cdcl.specs.Found.{IsQuiet}
+use Rattle.eq_cdcl.specs.inner.Assignment.{Assignment}
+use Rattle.eq_cdcl.specs.inner.Slots.{IsProper}
+use Rattle.eq_cdcl.specs.inner.Judged.{IsLive}
+use Rattle.eq_cdcl.specs.inner.Sound.{IsSound}
+use Rattle.eq_cdcl.specs.inner.Found.{IsQuiet}
 use Rattle.eq_cdcl.specs.inner.Watched.{StaysTrue, IsMinded, IsWatched}
 use Rattle.eq_cdcl.specs.declared.watches.Pair.{Pair}
 use Rattle.eq_cdcl.specs.declared.watches.Watch.{Watch}

@@ -10,9 +10,9 @@ use Rattle.eq_proof.specs.Sets.{IsFalsified, IsUnit}
 use Rattle.eq_proof.specs.Assigned.{AllBelow}
 use Rattle.eq_proof.specs.Derivation.{HasNumber, Refutes, IsDerivation}
 use Rattle.eq_proof.proofs.Negations.{negation_twice, from_negations, to_negations}
-use Rattle.eq_cdcl.specs.Sound.{AreApart}
-use Rattle.eq_cdcl.specs.Asserting.{Keeps}
-use Rattle.eq_cdcl.specs.Resolved.{marked, MarksToo, IsResolved}
+use Rattle.eq_cdcl.specs.inner.Sound.{AreApart}
+use Rattle.eq_cdcl.specs.inner.Asserting.{Keeps}
+use Rattle.eq_cdcl.specs.inner.Resolved.{marked, MarksToo, IsResolved}
 use Rattle.eq_cdcl.proofs.Places.{member_place, place_member, taken_member, member_taken, same_place}
 
 wider : (lits : List Literal) (p : ℕ) (l : Literal) → Contains (take p lits) l → Contains (take (suc p) lits) l

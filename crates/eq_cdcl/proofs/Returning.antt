@@ -6,9 +6,9 @@ use Rattle.std.proofs.lemmas.List.{length-take-le}
 use Rattle.std.proofs.lemmas.List.Elements.{All-contains}
 use Rattle.eq_proof.specs.Literal.{Literal, negation}
 use Rattle.eq_proof.specs.Sets.{IsUnit}
-use Rattle.eq_cdcl.specs.Assignment.{Assignment, extended, cut_to}
-use Rattle.eq_cdcl.specs.Slots.{IsProper}
-use Rattle.eq_cdcl.specs.Sound.{IsSound}
+use Rattle.eq_cdcl.specs.inner.Assignment.{Assignment, extended, cut_to}
+use Rattle.eq_cdcl.specs.inner.Slots.{IsProper}
+use Rattle.eq_cdcl.specs.inner.Sound.{IsSound}
 use Rattle.eq_cdcl.specs.inner.Teaching.{IsSecond, IsTakenUp, Teaches}
 use Rattle.eq_cdcl.specs.inner.Watched.{IsCut, StaysTrue, IsQuietFor, IsWatched, Watching}
 use Rattle.eq_cdcl.specs.declared.learning.Learned.{Learned}

@@ -8,7 +8,7 @@ use Rattle.std.proofs.lemmas.List.Sums.{sum_by-set, count_by-le-length}
 use Rattle.std.proofs.lemmas.Option.{slice_get_within}
 use Rattle.eq_proof.specs.Literal.{Literal, negation, literal_is}
 use Rattle.eq_proof.specs.Sets.{IsFalse, HasNoValue}
-use Rattle.eq_cdcl.specs.Slots.{IsTrail, HasValue, value_of, holds_of, is_taken}
+use Rattle.eq_cdcl.specs.inner.Slots.{IsTrail, HasValue, value_of, holds_of, is_taken}
 use Rattle.eq_cdcl.specs.declared.trail.Reason.{Reason}
 use Rattle.eq_cdcl.specs.declared.trail.Slot.{Slot}
 use Rattle.eq_cdcl.specs.declared.trail.Slot.TheVariants.{Open, Taken}

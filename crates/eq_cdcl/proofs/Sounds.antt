@@ -7,8 +7,8 @@ use Rattle.std.proofs.lemmas.Option.{slice_get_within}
 use Rattle.eq_proof.specs.Literal.{Literal, negation}
 use Rattle.eq_proof.specs.Sets.{IsConsistent, HasNoValue}
 use Rattle.eq_proof.proofs.Trails.{same_variable}
-use Rattle.eq_cdcl.specs.Assignment.{Assignment, extended, cut_to}
-use Rattle.eq_cdcl.specs.Sound.{AreApart, IsExplained, IsSound}
+use Rattle.eq_cdcl.specs.inner.Assignment.{Assignment, extended, cut_to}
+use Rattle.eq_cdcl.specs.inner.Sound.{AreApart, IsExplained, IsSound}
 use Rattle.eq_cdcl.specs.declared.trail.Reason.{Reason}
 use Rattle.eq_cdcl.proofs.Places.{member_place, place_member, push_cases, taken_place, same_place}
 

@@ -7,11 +7,11 @@ use Rattle.eq_proof.specs.Literal.{Literal}
 use Rattle.eq_proof.specs.Clause.{IsClause}
 use Rattle.eq_proof.specs.Sets.{IsFalse, HasNoValue, IsUnit}
 use Rattle.eq_proof.proofs.Judging.{differs}
-use Rattle.eq_cdcl.specs.Assignment.{Assignment, extended}
-use Rattle.eq_cdcl.specs.Slots.{IsProper}
-use Rattle.eq_cdcl.specs.Sound.{IsSound}
-use Rattle.eq_cdcl.specs.Found.{IsConflict}
-use Rattle.eq_cdcl.specs.Asserting.{HasNoDecision}
+use Rattle.eq_cdcl.specs.inner.Assignment.{Assignment, extended}
+use Rattle.eq_cdcl.specs.inner.Slots.{IsProper}
+use Rattle.eq_cdcl.specs.inner.Sound.{IsSound}
+use Rattle.eq_cdcl.specs.inner.Found.{IsConflict}
+use Rattle.eq_cdcl.specs.inner.Asserting.{HasNoDecision}
 use Rattle.eq_cdcl.specs.inner.Watched.{IsWatched, IsAttached, Watching}
 use Rattle.eq_cdcl.specs.declared.trail.Reason.TheVariants.{Decision, Implied}
 use Rattle.eq_cdcl.specs.declared.watches.Pair.{Pair}

@@ -4,7 +4,7 @@ use Rattle.std.proofs.lemmas.Bool.{cases_lt}
 use Rattle.std.proofs.lemmas.List.{length_push, length-take-le}
 use Rattle.std.proofs.lemmas.Option.{slice_get_within}
 use Rattle.eq_proof.specs.Literal.{Literal, negation}
-use Rattle.eq_cdcl.specs.Assignment.{Assignment, extended, cut_to}
+use Rattle.eq_cdcl.specs.inner.Assignment.{Assignment, extended, cut_to}
 use Rattle.eq_cdcl.specs.inner.Watched.{IsCut, StaysTrue, IsQuietFor, IsMinded, IsWatched}
 use Rattle.eq_cdcl.specs.declared.trail.Reason.{Reason}
 use Rattle.eq_cdcl.specs.declared.trail.Reason.TheVariants.{Decision}

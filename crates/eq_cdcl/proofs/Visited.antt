@@ -9,10 +9,10 @@ use Rattle.eq_proof.specs.Assigned.{AllBelow}
 use Rattle.eq_proof.specs.Sets.{IsFalse, HasNoValue, IsFalsified, IsUnit}
 use Rattle.eq_proof.proofs.Lists.{All-at}
 use Rattle.eq_proof.proofs.Negations.{negation_twice}
-use Rattle.eq_cdcl.specs.Assignment.{Assignment, extended}
-use Rattle.eq_cdcl.specs.Slots.{IsProper}
-use Rattle.eq_cdcl.specs.Sound.{IsSound}
-use Rattle.eq_cdcl.specs.Found.{IsConflict}
+use Rattle.eq_cdcl.specs.inner.Assignment.{Assignment, extended}
+use Rattle.eq_cdcl.specs.inner.Slots.{IsProper}
+use Rattle.eq_cdcl.specs.inner.Sound.{IsSound}
+use Rattle.eq_cdcl.specs.inner.Found.{IsConflict}
 use Rattle.eq_cdcl.specs.inner.Watched.{StaysTrue, list_of, IsListed, IsQuietFor, IsMinded, IsWatched, HasLiteral, IsOther, IsAtEntry}
 use Rattle.eq_cdcl.specs.inner.Visiting.{IsSeen, IsVisiting, Visiting, Visits, AreFalseBut, Implies}
 use Rattle.eq_cdcl.specs.declared.trail.Reason.TheVariants.{Implied}

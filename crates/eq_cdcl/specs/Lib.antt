@@ -1,12 +1,4 @@
-pub mod Assignment
-pub mod Slots
-pub mod Knowledge
-pub mod Judged
-pub mod Sound
-pub mod Found
 pub mod Halting
-pub mod Resolved
-pub mod Asserting
 pub mod Logged
 pub mod Answer
 pub mod inner

@@ -1,8 +1,7 @@
 -- Logs of learned clauses.
-use Rattle.std.specs.Prelude.{◌≡◌, ◌≢◌, ℕ, ◌<◌, List, [], length, slice_get, Some}
+use Rattle.std.specs.Prelude.{◌≡◌, ◌≢◌, ℕ, ◌<◌, List, [], slice_get, Some}
 use Rattle.eq_proof.specs.Literal.{Literal}
 use Rattle.eq_proof.specs.Inference.{Inference}
-use Rattle.eq_proof.specs.Derivation.{AllDerive}
 use Rattle.eq_proof.specs.Fresh.{FreshAt}
 
 -- the step at a place has a clause that isn't empty
@@ -12,8 +11,3 @@ HasLiteralsAt log place = (step : Inference) × (slice_get log place ≡ Some st
 -- the steps below a place are fresh, and none is empty
 abbrev pub FreshBelow : List (List Literal) → List Inference → ℕ → Type 0
 FreshBelow clauses log end = (place : ℕ) → place < end → FreshAt clauses log place × HasLiteralsAt log place
-
--- each step is a derivation and fresh
-pub record IsLogged (clauses : List (List Literal)) (log : List Inference) : Type 0 where
-  pub derived : AllDerive clauses log
-  pub fresh : FreshBelow clauses log (length log)

@@ -1,6 +1,15 @@
 pub mod Answering
+pub mod Asserting
+pub mod Assignment
+pub mod Found
+pub mod Halting
+pub mod Judged
+pub mod Knowledge
 pub mod Listing
 pub mod Propagating
+pub mod Resolved
+pub mod Slots
+pub mod Sound
 pub mod Teaching
 pub mod Visiting
 pub mod Watched

@@ -1,9 +1,9 @@
 //! Conflict analysis: which literals are resolved away and which are kept.
 ghost use Rattle.std.specs.Prelude.{◌≡◌, ◌<◌, ◌≤◌, ◌+◌, ◌^◌, ◌↔◌, suc, true, false, ℕ, [], length, slice_get, slice_set, Some, IsTrue, IfOk, OnOk};
-ghost use Rattle.eq_cdcl.specs.Sound.{IsSound};
-ghost use Rattle.eq_cdcl.specs.Found.{IsConflict};
-ghost use Rattle.eq_cdcl.specs.Resolved.{marked, opens, IsResolved};
-ghost use Rattle.eq_cdcl.specs.Asserting.{IsLastDecision, HasNoDecision, Keeps, Settles, Asserts};
+ghost use Rattle.eq_cdcl.specs.inner.Sound.{IsSound};
+ghost use Rattle.eq_cdcl.specs.inner.Found.{IsConflict};
+ghost use Rattle.eq_cdcl.specs.inner.Resolved.{marked, opens, IsResolved};
+ghost use Rattle.eq_cdcl.specs.inner.Asserting.{IsLastDecision, HasNoDecision, Keeps, Settles, Asserts};
 
 use crate::heuristics::Heuristics;
 use crate::known::Known;
@@ -246,7 +246,7 @@ impl Analysis {
         known: &Known<'_>,
         heuristics: &mut Heuristics,
         place: usize,
-        number: u64,
+        number: u32,
         start: usize,
     ) -> Result<usize, Memory>
         requires sound { IsSound known.now trail.now }
@@ -263,16 +263,17 @@ impl Analysis {
         ensures kept { self.new.kept ≡ self.old.kept }
         ensures room { OnOk result (length self.new.marks ≡ length self.old.marks) }
     {
+        let clause = u64::from(number);
         let more = mark_all(
             &mut self.marks,
             trail,
-            known.numbered(number),
+            known.numbered(clause),
             start,
             place + 1,
             heuristics,
         );
         self.marks.set(place, false);
-        self.ants.push(number)?;
+        self.ants.push(clause)?;
         Ok(more)
     }
 }

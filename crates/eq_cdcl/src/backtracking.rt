@@ -3,14 +3,13 @@ ghost use Rattle.std.specs.Prelude.{◌≡◌, ◌<◌, ◌≤◌, ◌⊎◌, �
 ghost use Rattle.eq_proof.specs.Assigned.{AllBelow};
 ghost use Rattle.eq_proof.specs.Literal.{code_of};
 ghost use Rattle.eq_proof.specs.Sets.{HasNoValue};
-ghost use Rattle.eq_cdcl.specs.Assignment.{cut_to, extended};
-ghost use Rattle.eq_cdcl.specs.Knowledge.{known_of};
-ghost use Rattle.eq_cdcl.specs.Sound.{IsSound};
-ghost use Rattle.eq_cdcl.specs.Found.{IsConflict};
-ghost use Rattle.eq_cdcl.specs.Resolved.{marked};
-ghost use Rattle.eq_cdcl.specs.Asserting.{IsLastDecision};
-ghost use Rattle.eq_cdcl.specs.Logged.{IsLogged};
-ghost use Rattle.eq_cdcl.specs.Slots.{IsProper};
+ghost use Rattle.eq_cdcl.specs.inner.Assignment.{cut_to, extended};
+ghost use Rattle.eq_cdcl.specs.inner.Knowledge.{known_of, IsLogged};
+ghost use Rattle.eq_cdcl.specs.inner.Sound.{IsSound};
+ghost use Rattle.eq_cdcl.specs.inner.Found.{IsConflict};
+ghost use Rattle.eq_cdcl.specs.inner.Resolved.{marked};
+ghost use Rattle.eq_cdcl.specs.inner.Asserting.{IsLastDecision};
+ghost use Rattle.eq_cdcl.specs.inner.Slots.{IsProper};
 ghost use Rattle.eq_cdcl.specs.inner.Teaching.{IsTakenUp};
 ghost use Rattle.eq_cdcl.specs.inner.Watched.{IsCut, Watching};
 
@@ -95,7 +94,7 @@ fn take_up(
 {
     take_back(trail, heuristics, cut)?;
     watches.go_back(cut);
-    trail.assign(literal, Reason::Implied(number))?;
+    trail.imply(literal, number)?;
     watch(watches, literal, second)
 }
 

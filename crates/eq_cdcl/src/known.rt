@@ -19,7 +19,7 @@ impl<'a> Model for Known<'a> {
 
     ghost Value = { List (List Literal) };
 
-    ghost use Rattle.eq_cdcl.specs.Knowledge.{known_of};
+    ghost use Rattle.eq_cdcl.specs.inner.Knowledge.{known_of};
     ghost use Rattle.std.specs.Prelude.{◌≡◌, ◌<◌, ◌^◌, length};
 
     ghost view = { λ k. known_of k.formula.now.clauses k.log.now };
@@ -28,7 +28,7 @@ impl<'a> Model for Known<'a> {
 }
 
 impl<'a> Known<'a> {
-    ghost use Rattle.eq_cdcl.specs.Knowledge.{known_of};
+    ghost use Rattle.eq_cdcl.specs.inner.Knowledge.{known_of};
     ghost use Rattle.eq_proof.specs.Derivation.{HasNumber};
 
     pub fn new(formula: &'a Formula, log: &'a Log) -> Known<'a>

@@ -2,10 +2,10 @@
 ghost use Rattle.std.specs.Prelude.{◌≡◌, ◌<◌, ◌≤◌, ◌↔◌, [], ℕ, false, Some, All, Contains, length, reverse, slice_get, IfOk};
 ghost use Rattle.eq_proof.specs.Literal.{Literal};
 ghost use Rattle.eq_proof.specs.Derivation.{IsDerivation};
-ghost use Rattle.eq_cdcl.specs.Sound.{IsSound};
-ghost use Rattle.eq_cdcl.specs.Found.{IsConflict};
-ghost use Rattle.eq_cdcl.specs.Resolved.{marked};
-ghost use Rattle.eq_cdcl.specs.Asserting.{IsLastDecision, HasNoDecision};
+ghost use Rattle.eq_cdcl.specs.inner.Sound.{IsSound};
+ghost use Rattle.eq_cdcl.specs.inner.Found.{IsConflict};
+ghost use Rattle.eq_cdcl.specs.inner.Resolved.{marked};
+ghost use Rattle.eq_cdcl.specs.inner.Asserting.{IsLastDecision, HasNoDecision};
 ghost use Rattle.eq_cdcl.specs.inner.Teaching.{Teaches};
 
 use crate::analysis::Analysis;

@@ -1,6 +1,6 @@
 //! Levels of a trail: each begins with a decision, and level 0 is what stands before the first.
 ghost use Rattle.std.specs.Prelude.{◌≡◌, ◌≤◌, length, IfSome, IfNone};
-ghost use Rattle.eq_cdcl.specs.Asserting.{IsLastDecision, HasNoDecision};
+ghost use Rattle.eq_cdcl.specs.inner.Asserting.{IsLastDecision, HasNoDecision};
 ghost use Rattle.eq_cdcl.specs.inner.Watched.{IsCut};
 
 use crate::trail::{Reason, Trail};

@@ -2,6 +2,7 @@
 //!
 //! From the bottom:
 //!
+//! - `short`: numbers in four bytes.
 //! - `slots`, `trail`: the true literals in order with a reason each, and for each variable the place of its literal.
 //! - `known`: the clauses of a formula and of a log by number (`known_of`).
 //! - `watches`: the two literals that each clause watches, and for each literal the clauses that watch it.
@@ -32,6 +33,7 @@ mod phases;
 mod propagation;
 mod restarts;
 mod search;
+mod short;
 mod slots;
 pub mod solver;
 mod starting;

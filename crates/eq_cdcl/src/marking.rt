@@ -1,8 +1,8 @@
 //! Marks of places on the trail.
 ghost use Rattle.std.specs.Prelude.{◌≡◌, ◌<◌, ◌≤◌, ◌+◌, ◌∷◌, [], length, take, replicate, false, All, IfOk};
-ghost use Rattle.eq_cdcl.specs.Slots.{HasVariable};
-ghost use Rattle.eq_cdcl.specs.Sound.{AreApart};
-ghost use Rattle.eq_cdcl.specs.Resolved.{marked, opens, MarksToo};
+ghost use Rattle.eq_cdcl.specs.inner.Slots.{HasVariable};
+ghost use Rattle.eq_cdcl.specs.inner.Sound.{AreApart};
+ghost use Rattle.eq_cdcl.specs.inner.Resolved.{marked, opens, MarksToo};
 
 use crate::heuristics::Heuristics;
 use crate::trail::Trail;

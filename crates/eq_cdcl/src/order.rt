@@ -20,7 +20,7 @@ impl Order {
     /// All variables from 1 to `vars`, whose scores are equal.
     pub fn new(alloc: Global, vars: u32) -> Result<Order, Memory> {
         let mut order = Order {
-            heap: Vec::new(alloc),
+            heap: Vec::with_capacity(alloc, vars as usize)?,
             places: vec![in alloc; 0; vars as usize + 1]?,
         };
         for before in 0..vars {

@@ -1,8 +1,8 @@
 //! Unit propagation by two watched literals a clause (Moskewicz, Madigan, Zhao, Zhang, Malik, 'Chaff', 2001).
 ghost use Rattle.std.specs.Prelude.{◌≡◌, ◌≤◌, All, length, IfOk, OnOk};
 ghost use Rattle.eq_proof.specs.Assigned.{AllBelow};
-ghost use Rattle.eq_cdcl.specs.Sound.{IsSound};
-ghost use Rattle.eq_cdcl.specs.Found.{Finds};
+ghost use Rattle.eq_cdcl.specs.inner.Sound.{IsSound};
+ghost use Rattle.eq_cdcl.specs.inner.Found.{Finds};
 ghost use Rattle.eq_cdcl.specs.inner.Watched.{Watching};
 ghost use Rattle.eq_cdcl.specs.inner.Propagating.{IsAtEnd};
 

@@ -2,8 +2,8 @@
 ghost use Rattle.std.specs.Prelude.{◌≡◌, ◌<◌, ◌≤◌, All, length, IfOk, OnOk, IfSome, IfNone};
 ghost use Rattle.eq_proof.specs.Assigned.{AllBelow};
 ghost use Rattle.eq_proof.specs.Sets.{HasNoValue, IsConsistent};
-ghost use Rattle.eq_cdcl.specs.Sound.{IsSound};
-ghost use Rattle.eq_cdcl.specs.Halting.{Halts, AllHaveValues, GivesValues};
+ghost use Rattle.eq_cdcl.specs.inner.Sound.{IsSound};
+ghost use Rattle.eq_cdcl.specs.inner.Halting.{Halts, AllHaveValues, GivesValues};
 ghost use Rattle.eq_cdcl.specs.inner.Watched.{Watching};
 
 use crate::heuristics::Heuristics;

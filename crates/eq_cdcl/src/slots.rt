@@ -1,6 +1,6 @@
 //! What a variable's slot says of its literals.
 ghost use Rattle.std.specs.Prelude.{◌≡◌};
-ghost use Rattle.eq_cdcl.specs.Slots.{value_of, holds_of};
+ghost use Rattle.eq_cdcl.specs.inner.Slots.{value_of, holds_of};
 
 use crate::trail::{Slot, Value};
 

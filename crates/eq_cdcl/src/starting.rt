@@ -3,13 +3,13 @@
 ghost use Rattle.std.specs.Prelude.{◌≡◌, ◌<◌, ◌≤◌, ◌+◌, ◌*◌, [], ◌∷◌, All, Some, length, take, slice_get, IfOk, OnOk, MatchBool, MatchOption};
 ghost use Rattle.eq_proof.specs.Assigned.{AllBelow};
 ghost use Rattle.eq_proof.specs.Sets.{IsFalse};
-ghost use Rattle.eq_cdcl.specs.Sound.{IsSound};
-ghost use Rattle.eq_cdcl.specs.Found.{IsConflict};
-ghost use Rattle.eq_cdcl.specs.Asserting.{HasNoDecision};
+ghost use Rattle.eq_cdcl.specs.inner.Sound.{IsSound};
+ghost use Rattle.eq_cdcl.specs.inner.Found.{IsConflict};
+ghost use Rattle.eq_cdcl.specs.inner.Asserting.{HasNoDecision};
 ghost use Rattle.eq_cdcl.specs.inner.Watched.{Watching};
 
 use crate::known::Known;
-use crate::trail::{Reason, Trail, Value};
+use crate::trail::{Trail, Value};
 use crate::watches::Watches;
 use eq_base::Memory;
 use eq_proof::Lit;
@@ -97,7 +97,7 @@ fn start_unit(
             Ok(false)
         }
         Value::Unassigned => {
-            trail.assign(l, Reason::Implied(place + 1))?;
+            trail.imply(l, place + 1)?;
             watches.attach_root(l)?;
             Ok(false)
         }

@@ -3,6 +3,7 @@ ghost use Rattle.std.specs.Prelude.{◌≡◌, ◌<◌, ◌≤◌, ◌-◌, ◌^
 ghost use Rattle.eq_proof.specs.Literal.{Literal};
 ghost use Rattle.eq_proof.specs.Sets.{HasNoValue};
 
+use crate::short::short;
 use crate::slots::{holds_by, value_by};
 use eq_base::Memory;
 use eq_proof::Lit;
@@ -13,7 +14,7 @@ use std::marker::Model;
 #[derive(Clone, Copy, Debug)]
 pub enum Slot {
     Open,
-    Taken(usize, bool),
+    Taken(u32, bool),
 }
 
 /// The value of a literal.
@@ -29,7 +30,7 @@ pub enum Value {
 pub enum Reason {
     Decision,
     /// The number of a clause whose other literals are all false.
-    Implied(u64),
+    Implied(u32),
 }
 
 /// The true literals with their reasons, and for each variable the place of its literal.
@@ -42,11 +43,11 @@ pub struct Trail {
 
 impl Model for Trail {
     ghost use Rattle.std.specs.Prelude.{length};
-    ghost use Rattle.eq_cdcl.specs.Assignment.{Assignment};
+    ghost use Rattle.eq_cdcl.specs.inner.Assignment.{Assignment};
 
     ghost Value = { Assignment };
 
-    ghost use Rattle.eq_cdcl.specs.Slots.{IsTrail};
+    ghost use Rattle.eq_cdcl.specs.inner.Slots.{IsTrail};
 
     ghost view = { λ t. record { size = length t.slots.items; lits = t.lits.items; reasons = t.reasons.items } };
 
@@ -54,8 +55,8 @@ impl Model for Trail {
 }
 
 impl Trail {
-    ghost use Rattle.eq_cdcl.specs.Assignment.{extended, cut_to};
-    ghost use Rattle.eq_cdcl.specs.Slots.{HasValue, HasVariable, IsAtPlace, IsProper};
+    ghost use Rattle.eq_cdcl.specs.inner.Assignment.{extended, cut_to};
+    ghost use Rattle.eq_cdcl.specs.inner.Slots.{HasValue, HasVariable, IsAtPlace, IsProper};
 
     /// No literal of the variables below `size` is true.
     pub fn new(alloc: Global, size: usize) -> Result<Trail, Memory>
@@ -64,8 +65,8 @@ impl Trail {
         let slots = vec![in alloc; Slot::Open; size]?;
         Ok(Trail {
             slots,
-            lits: Vec::new(alloc),
-            reasons: Vec::new(alloc),
+            lits: Vec::with_capacity(alloc, size)?,
+            reasons: Vec::with_capacity(alloc, size)?,
         })
     }
 
@@ -117,7 +118,7 @@ impl Trail {
         ensures { IsAtPlace self.now.lits l.var result }
     {
         match self.slots[l.var() as usize] {
-            Slot::Taken(place, _) => place,
+            Slot::Taken(place, _) => place as usize,
             Slot::Open => unreachable!(),
         }
     }
@@ -130,7 +131,7 @@ impl Trail {
         ensures room { OnOk result (length self.new.lits ≤ self.new.size) }
         ensures proper { OnOk result (IsProper l) }
     {
-        let place = self.lits.len();
+        let place = short(self.lits.len() as u64)?;
         self.reasons.push(reason)?;
         match self.lits.push(l) {
             Ok(()) => {
@@ -142,6 +143,18 @@ impl Trail {
                 Err(Memory)
             }
         }
+    }
+
+    /// Makes a literal true by the clause with a number.
+    pub fn imply(&mut self, l: Lit, number: u64) -> Result<(), Memory>
+        requires within { l.var < self.old.size }
+        requires no_value { HasNoValue self.old.lits l }
+        ensures ok { OnOk result (self.new ≡ extended self.old l (Reason.Implied number)) }
+        ensures room { OnOk result (length self.new.lits ≤ self.new.size) }
+        ensures proper { OnOk result (IsProper l) }
+    {
+        let kept = short(number)?;
+        self.assign(l, Reason::Implied(kept))
     }
 
     /// Takes back all literals but the first `len`.

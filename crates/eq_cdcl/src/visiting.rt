@@ -2,14 +2,14 @@
 ghost use Rattle.std.specs.Prelude.{◌≡◌, ◌<◌, ◌≤◌, All, length, IfOk, OnOk, MatchBool, MatchOption, IsTrue, ◌+◌, Contains};
 ghost use Rattle.eq_proof.specs.Assigned.{AllBelow};
 ghost use Rattle.eq_proof.specs.Sets.{IsFalse};
-ghost use Rattle.eq_cdcl.specs.Slots.{IsProper};
-ghost use Rattle.eq_cdcl.specs.Sound.{IsSound};
-ghost use Rattle.eq_cdcl.specs.Found.{IsConflict};
+ghost use Rattle.eq_cdcl.specs.inner.Slots.{IsProper};
+ghost use Rattle.eq_cdcl.specs.inner.Sound.{IsSound};
+ghost use Rattle.eq_cdcl.specs.inner.Found.{IsConflict};
 ghost use Rattle.eq_cdcl.specs.inner.Watched.{IsAtEntry, Watching, list_of};
 ghost use Rattle.eq_cdcl.specs.inner.Visiting.{AreFalseBut, Implies, IsAnother, IsVisited, Visiting, Visits};
 
 use crate::known::Known;
-use crate::trail::{Reason, Trail, Value};
+use crate::trail::{Trail, Value};
 use crate::watches::Watches;
 use eq_base::Memory;
 use eq_proof::Lit;
@@ -143,9 +143,8 @@ fn is_false(trail: &Trail, l: Lit) -> bool
     ensures { MatchBool result (IsFalse trail.now.lits l) (IsProper l × (¬ IsFalse trail.now.lits l)) }
 {
     match trail.value(l) {
-        Value::True => false,
         Value::False => true,
-        Value::Unassigned => false,
+        Value::True | Value::Unassigned => false,
     }
 }
 
@@ -159,7 +158,7 @@ fn imply(trail: &mut Trail, clause: u32, l: Lit) -> Result<Visited, Memory>
     let number = u64::from(clause) + 1;
     match trail.value(l) {
         Value::Unassigned => {
-            trail.assign(l, Reason::Implied(number))?;
+            trail.imply(l, number)?;
             Ok(Visited::Kept)
         }
         Value::True => Ok(Visited::Kept),

@@ -1,10 +1,11 @@
 //! Which literals a clause watches, and which clauses watch a literal.
 ghost use Rattle.std.specs.Prelude.{◌≡◌, ◌<◌, [], ◌∷◌, ◌++◌, Some, All, length, slice_get, slice_index_or, IfOk, OnOk, MatchOption, min};
 ghost use Rattle.eq_proof.specs.Literal.{code_of};
-ghost use Rattle.eq_cdcl.specs.Slots.{IsProper};
+ghost use Rattle.eq_cdcl.specs.inner.Slots.{IsProper};
 ghost use Rattle.eq_cdcl.specs.inner.Watched.{HasLiteral, IsAttached, IsMoved, IsOther, list_of};
 ghost use Rattle.eq_cdcl.specs.inner.Listing.{IsAdded, IsOneLess, IsTakenOut};
 
+use crate::short::short;
 use eq_base::{Items, Memory};
 use eq_proof::Lit;
 use std::alloc::Global;
@@ -57,7 +58,7 @@ impl Watches {
         ensures lists { IfOk result (λ watches. All (λ list. list ≡ []) watches.lists.items) }
         ensures head { IfOk result (λ watches. watches.head ≡ 0) }
     {
-        let mut lists = Vec::new(alloc);
+        let mut lists = Vec::with_capacity(alloc, literals)?;
         for _ in 0..literals {
             lists.push(Items::new(alloc))?;
         }
@@ -103,7 +104,7 @@ impl Watches {
             self.new.pairs.items self.new.lists.items first second) }
         ensures head { self.new.head ≡ self.old.head }
     {
-        let clause = clause_number(self.pairs.len())?;
+        let clause = short(self.pairs.len() as u64)?;
         add(
             &mut self.lists,
             number_of(first),
@@ -179,16 +180,6 @@ impl Watches {
         if len < self.head {
             self.head = len;
         }
-    }
-}
-
-// A place as the number that stands for it in an entry.
-fn clause_number(place: usize) -> Result<u32, Memory>
-    ensures { IfOk result (λ number. number ≡ place) }
-{
-    match u32::try_from(place) {
-        Ok(number) => Ok(number),
-        Err(_) => Err(Memory),
     }
 }
 

@@ -79,6 +79,22 @@ impl<T: Copy> Rows<T> {
         ensures ok { OnOk result (self.new ≡ self.old ++ row.now ∷ []) }
         ensures err { OnErr result (self.new ≡ self.old) }
     {
+        self.make_room(row.len())?;
+        self.append(row)
+    }
+
+    // Room for a row of this length.
+    fn make_room(&mut self, len: usize) -> Result<(), Memory>
+        ensures { self.new ≡ self.old }
+    {
+        widen(&mut self.items, len)?;
+        widen(&mut self.ends, 1)
+    }
+
+    fn append(&mut self, row: &[T]) -> Result<(), Memory>
+        ensures ok { OnOk result (self.new ≡ self.old ++ row.now ∷ []) }
+        ensures err { OnErr result (self.new ≡ self.old) }
+    {
         let len = self.items.len();
         self.items.extend_from_slice(row)?;
         match self.ends.push(len + row.len()) {
@@ -89,6 +105,17 @@ impl<T: Copy> Rows<T> {
             }
         }
     }
+}
+
+// Room for some more items. It grows by at least an eighth: so little of it stays unused, and each item moves a few times.
+fn widen<T>(items: &mut Vec<T>, more: usize) -> Result<(), Memory>
+    ensures { items.new.items ≡ items.old.items }
+{
+    let unused = items.capacity().saturating_sub(items.len());
+    if more <= unused {
+        return Ok(());
+    }
+    items.reserve_exact(more.max(items.len() / 8))
 }
 
 // The row at a place of rows that are kept flat.

@@ -1,8 +1,9 @@
 //! Solves `formula.cnf` of its folder, so that a script can time the proved solver. It is no part of EQY.
 //!
-//! With the word `count` it learns at most 200,000 clauses, and puts a line with the number of steps of the log, none where
-//! there are values that satisfy. Without a word it learns at most 2,000, and puts the line `s SATISFIABLE`,
-//! `s UNSATISFIABLE` or `s UNKNOWN`, as solvers do. The status is 0 where that could be done.
+//! With the word `count` it learns at most 200,000 clauses, and puts a line with the numbers of the log's steps, of their
+//! literals and of their antecedents, which are 0 where there are values that satisfy. Without a word it learns at most
+//! 2,000, and puts the line `s SATISFIABLE`, `s UNSATISFIABLE` or `s UNKNOWN`, as solvers do. The status is 0 where that
+//! could be done.
 #![tactic(auto)]
 
 ghost use Rattle.std.specs.Prelude.{◌≤◌};
@@ -10,7 +11,7 @@ ghost use Rattle.std.specs.Prelude.{◌≤◌};
 use eq_base::Bytes;
 use eq_cdcl::{Solved, solve};
 use eq_io::{DirStore, Got, OutSink, Sink, Store};
-use eq_proof::read_dimacs;
+use eq_proof::{Formula, Log, read_dimacs};
 use std::alloc::Global;
 use std::env::Env;
 use std::process::ExitCode;
@@ -59,21 +60,46 @@ fn held<S: Store>(alloc: Global, store: &mut S, name: &str) -> Option<Bytes> {
     }
 }
 
-/// What the solver says of a formula.
-fn solved(alloc: Global, formula: &[u8], told: Told) -> Option<Solved> {
-    if formula.len() as u64 > MOST {
+/// The formula of a text.
+fn read(alloc: Global, text: &[u8]) -> Option<Formula> {
+    if text.len() as u64 > MOST {
         return None;
     }
-    let formula = read_dimacs(alloc, formula).ok()?;
-    solve(alloc, &formula, budget(told)).ok()
+    read_dimacs(alloc, text).ok()
 }
 
-/// How many steps the log has.
-fn learned(solved: &Solved) -> u64 {
+/// How many steps a log has, and how many literals and antecedents they have together.
+#[derive(Clone, Copy)]
+struct Sizes {
+    steps: u32,
+    literals: usize,
+    antecedents: usize,
+}
+
+fn sizes_of(log: &Log) -> Sizes {
+    let mut sizes = Sizes {
+        steps: log.len(),
+        literals: 0,
+        antecedents: 0,
+    };
+    for place in 0..log.len() {
+        let step = log.at(place);
+        sizes.literals = sizes.literals.saturating_add(step.clause.len());
+        sizes.antecedents = sizes.antecedents.saturating_add(step.ants.len());
+    }
+    sizes
+}
+
+/// The sizes of an answer's log.
+fn learned(solved: &Solved) -> Sizes {
     match solved {
-        Solved::Sat(_) => 0,
-        Solved::Unsat(log) => u64::from(log.len()),
-        Solved::Spent(log) => u64::from(log.len()),
+        Solved::Sat(_) => Sizes {
+            steps: 0,
+            literals: 0,
+            antecedents: 0,
+        },
+        Solved::Unsat(log) => sizes_of(log),
+        Solved::Spent(log) => sizes_of(log),
     }
 }
 
@@ -86,8 +112,13 @@ fn verdict(solved: &Solved) -> &'static str {
 }
 
 /// Puts the line of a count. Answers whether that could be done.
-fn put_count<O: Sink>(alloc: Global, count: u64, out: &mut O) -> bool {
-    match format!(in alloc; "learned {count}\n") {
+fn put_count<O: Sink>(alloc: Global, sizes: Sizes, out: &mut O) -> bool {
+    let Sizes {
+        steps,
+        literals,
+        antecedents,
+    } = sizes;
+    match format!(in alloc; "learned {steps} literals {literals} antecedents {antecedents}\n") {
         Ok(line) => out.put(alloc, line.as_bytes()).is_ok(),
         Err(_) => false,
     }
@@ -101,10 +132,16 @@ fn tell<O: Sink>(alloc: Global, told: Told, solved: &Solved, out: &mut O) -> boo
     }
 }
 
+/// The formula in the folder. Its text is let go.
+fn formula_of<S: Store>(alloc: Global, store: &mut S) -> Option<Formula> {
+    let text = held(alloc, store, "formula.cnf")?;
+    read(alloc, text.as_slice())
+}
+
 /// What the solver says of the formula in the folder.
 fn answer<S: Store>(alloc: Global, told: Told, store: &mut S) -> Option<Solved> {
-    let formula = held(alloc, store, "formula.cnf")?;
-    solved(alloc, formula.as_slice(), told)
+    let formula = formula_of(alloc, store)?;
+    solve(alloc, &formula, budget(told)).ok()
 }
 
 /// Solves the formula in the folder and puts the line. Answers whether that could be done.

@@ -7,7 +7,7 @@ use std::alloc::Global;
 use std::test::Fail;
 
 /// How many variables a chain has.
-const LENGTH: u32 = 20_000;
+const LENGTH: u32 = 400_000;
 
 /// A variable implies the next one.
 fn implication(alloc: Global, var: u32) -> Result<Clause, Memory> {

@@ -65,7 +65,15 @@ const EIGHT: [i16; 32] = [
     -1, 2, 3, 0, -1, 2, -3, 0, -1, -2, 3, 0, -1, -2, -3, 0, // 1 is true
 ];
 
-const CASES: [Case; 14] = [
+/// 1 is learned first, since it is decided to be false first. The search goes on from there: the other three variables are
+/// left, of which all values are ruled out.
+const LATER: [i16; 38] = [
+    1, 2, 0, 1, -2, 0, // 1 is true
+    2, 3, 4, 0, 2, 3, -4, 0, 2, -3, 4, 0, 2, -3, -4, 0, // 2 is false
+    -2, 3, 4, 0, -2, 3, -4, 0, -2, -3, 4, 0, -2, -3, -4, 0, // 2 is true
+];
+
+const CASES: [Case; 17] = [
     Case {
         vars: 12,
         clauses: &PIGEONS,
@@ -150,6 +158,25 @@ const CASES: [Case; 14] = [
         clauses: &EIGHT,
         budget: 3,
         want: Want::Unsat(Some(4)),
+    },
+    // clauses of one literal are learned in the middle
+    Case {
+        vars: 4,
+        clauses: &LATER,
+        budget: 3,
+        want: Want::Spent(3),
+    },
+    Case {
+        vars: 4,
+        clauses: &LATER,
+        budget: 4,
+        want: Want::Unsat(Some(5)),
+    },
+    Case {
+        vars: 3,
+        clauses: &[1, 2, 0, 1, -2, 0, -1, 3, 0, -2, -3, 0],
+        budget: 1,
+        want: Want::Sat(&[true, false, true]),
     },
 ];
 

@@ -1,7 +1,7 @@
 -- Cited by proofs alone; nothing here has to be believed.
 -- Where propagation ends.
 use Rattle.std.specs.Prelude.{◌≡◌, length}
-use Rattle.eq_cdcl.specs.Assignment.{Assignment}
+use Rattle.eq_cdcl.specs.inner.Assignment.{Assignment}
 use Rattle.eq_cdcl.specs.declared.propagation.Propagated.{Propagated}
 use Rattle.eq_cdcl.specs.declared.propagation.Propagated.TheVariants.{Conflict, Settled}
 use Rattle.eq_cdcl.specs.declared.watches.Watches.{Watches}

@@ -6,8 +6,8 @@ use Rattle.eq_proof.specs.Assigned.{AllBelow}
 use Rattle.eq_proof.specs.Sets.{IsUnit}
 use Rattle.eq_proof.specs.Derivation.{IsDerivation}
 use Rattle.eq_proof.specs.Fresh.{IsFresh}
-use Rattle.eq_cdcl.specs.Assignment.{Assignment, cut_to}
-use Rattle.eq_cdcl.specs.Sound.{IsSound}
+use Rattle.eq_cdcl.specs.inner.Assignment.{Assignment, cut_to}
+use Rattle.eq_cdcl.specs.inner.Sound.{IsSound}
 use Rattle.eq_cdcl.specs.inner.Watched.{IsAttached}
 use Rattle.eq_cdcl.specs.declared.learning.Learned.{Learned}
 use Rattle.eq_cdcl.specs.declared.trail.Reason.TheVariants.{Decision}

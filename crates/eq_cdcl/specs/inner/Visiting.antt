@@ -3,10 +3,10 @@
 use Rattle.std.specs.Prelude.{◌≡◌, ◌≢◌, ℕ, ◌+◌, ◌<◌, ◌⊎◌, suc, List, All, Contains, Option, None, Some, length, slice_get}
 use Rattle.eq_proof.specs.Literal.{Literal, negation}
 use Rattle.eq_proof.specs.Sets.{IsFalse, HasNoValue}
-use Rattle.eq_cdcl.specs.Assignment.{Assignment, extended}
-use Rattle.eq_cdcl.specs.Slots.{IsProper}
-use Rattle.eq_cdcl.specs.Sound.{IsSound}
-use Rattle.eq_cdcl.specs.Found.{IsConflict}
+use Rattle.eq_cdcl.specs.inner.Assignment.{Assignment, extended}
+use Rattle.eq_cdcl.specs.inner.Slots.{IsProper}
+use Rattle.eq_cdcl.specs.inner.Sound.{IsSound}
+use Rattle.eq_cdcl.specs.inner.Found.{IsConflict}
 use Rattle.eq_cdcl.specs.inner.Watched.{StaysTrue, HasLiteral, IsWatched, Watching, list_of}
 use Rattle.eq_cdcl.specs.declared.trail.Reason.TheVariants.{Implied}
 use Rattle.eq_cdcl.specs.declared.watches.Pair.{Pair}

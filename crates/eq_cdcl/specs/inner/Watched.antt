@@ -7,8 +7,8 @@
 -- nor unit, and any other has a true literal.
 use Rattle.std.specs.Prelude.{◌≡◌, ◌≢◌, ℕ, ◌*◌, ◌<◌, ◌≤◌, ◌⊎◌, suc, List, [], ◌∷◌, ◌++◌, length, Contains, slice_get, slice_set, Some, slice_index_or}
 use Rattle.eq_proof.specs.Literal.{Literal, negation, code_of}
-use Rattle.eq_cdcl.specs.Assignment.{Assignment}
-use Rattle.eq_cdcl.specs.Slots.{IsProper}
+use Rattle.eq_cdcl.specs.inner.Assignment.{Assignment}
+use Rattle.eq_cdcl.specs.inner.Slots.{IsProper}
 use Rattle.eq_cdcl.specs.inner.Listing.{IsAdded, IsTakenOut}
 use Rattle.eq_cdcl.specs.declared.trail.Reason.TheVariants.{Decision}
 use Rattle.eq_cdcl.specs.declared.watches.Pair.{Pair}

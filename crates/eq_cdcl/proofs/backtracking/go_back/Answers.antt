@@ -7,9 +7,8 @@ use Rattle.eq_proof.specs.Inference.{Inference}
 use Rattle.eq_proof.specs.Assigned.{AllBelow}
 use Rattle.eq_proof.specs.Derivation.{IsDerivation}
 use Rattle.eq_proof.specs.Fresh.{IsFresh}
-use Rattle.eq_cdcl.specs.Assignment.{Assignment}
-use Rattle.eq_cdcl.specs.Knowledge.{known_of}
-use Rattle.eq_cdcl.specs.Logged.{IsLogged}
+use Rattle.eq_cdcl.specs.inner.Assignment.{Assignment}
+use Rattle.eq_cdcl.specs.inner.Knowledge.{known_of, IsLogged}
 use Rattle.eq_cdcl.specs.inner.Teaching.{Teaches}
 use Rattle.eq_cdcl.proofs.Logging.{known_more, logged_more}
 use Rattle.eq_cdcl.proofs.Returning.{gone_back}

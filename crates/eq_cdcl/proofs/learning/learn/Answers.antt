@@ -3,8 +3,8 @@ use Rattle.std.specs.Prelude.{Contains}
 use Rattle.eq_proof.specs.Literal.{Literal}
 use Rattle.eq_proof.specs.Inference.{Inference}
 use Rattle.eq_proof.specs.Derivation.{IsDerivation}
-use Rattle.eq_cdcl.specs.Resolved.{IsResolved}
-use Rattle.eq_cdcl.specs.Asserting.{Keeps}
+use Rattle.eq_cdcl.specs.inner.Resolved.{IsResolved}
+use Rattle.eq_cdcl.specs.inner.Asserting.{Keeps}
 use Rattle.eq_cdcl.proofs.Resolving.{resolved_kept, resolved_end, resolved_below}
 use Rattle.eq_cdcl.proofs.Asserted.{asserts_start, asserted_unit, asserted_second, asserted_fresh, asserted_sound}
 use Rattle.eq_cdcl.proofs.learning.learn.Goals as goal

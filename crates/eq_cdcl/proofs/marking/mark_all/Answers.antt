@@ -2,7 +2,7 @@ use Rattle.std.proofs.Common.{take, arith}
 use Rattle.eq_proof.specs.Literal.{Literal}
 use Rattle.eq_proof.proofs.Judging.{taken_more, read_member}
 use Rattle.std.proofs.lemmas.List.Elements.{All-contains}
-use Rattle.eq_cdcl.specs.Slots.{HasVariable}
+use Rattle.eq_cdcl.specs.inner.Slots.{HasVariable}
 use Rattle.eq_cdcl.proofs.Counting.{opens_le}
 use Rattle.eq_cdcl.proofs.Marks.{marks_more}
 use Rattle.eq_cdcl.proofs.marking.mark_all.Goals as goal

@@ -1,5 +1,5 @@
 use Rattle.std.proofs.Common.{◌≡◌, ◌+◌, take}
-use Rattle.eq_cdcl.specs.Resolved.{opens, MarksToo}
+use Rattle.eq_cdcl.specs.inner.Resolved.{opens, MarksToo}
 use Rattle.eq_cdcl.proofs.marking.mark_all.Given as goal
 
 abbrev pub invariant-loop-l : goal.invariant-loop-l

@@ -1,4 +1,4 @@
-use Rattle.eq_cdcl.specs.Halting.{AllHaveValues}
+use Rattle.eq_cdcl.specs.inner.Halting.{AllHaveValues}
 use Rattle.eq_cdcl.proofs.search.first_open.Given as goal
 
 abbrev pub invariant-loop-before : goal.invariant-loop-before

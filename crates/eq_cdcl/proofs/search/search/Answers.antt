@@ -1,7 +1,7 @@
 use Rattle.std.proofs.Common.{subst, sym, ap, ◌∙◌}
-use Rattle.eq_cdcl.specs.Assignment.{Assignment}
-use Rattle.eq_cdcl.specs.Sound.{IsSound}
-use Rattle.eq_cdcl.specs.Found.{IsQuiet, Finds}
+use Rattle.eq_cdcl.specs.inner.Assignment.{Assignment}
+use Rattle.eq_cdcl.specs.inner.Sound.{IsSound}
+use Rattle.eq_cdcl.specs.inner.Found.{IsQuiet, Finds}
 use Rattle.eq_cdcl.specs.inner.Propagating.{IsAtEnd}
 use Rattle.eq_cdcl.specs.inner.Watched.{Watching}
 use Rattle.eq_cdcl.specs.declared.trail.Reason.TheVariants.{Decision}

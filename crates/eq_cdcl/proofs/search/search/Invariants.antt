@@ -1,5 +1,5 @@
 use Rattle.std.proofs.Common.{◌≡◌, ◌-◌, length}
-use Rattle.eq_cdcl.specs.Sound.{IsSound}
+use Rattle.eq_cdcl.specs.inner.Sound.{IsSound}
 use Rattle.eq_cdcl.specs.inner.Watched.{Watching}
 use Rattle.eq_cdcl.proofs.search.search.Given as goal
 

@@ -1,5 +1,5 @@
 use Rattle.std.proofs.Common.{◌≡◌, length}
-use Rattle.eq_cdcl.specs.Halting.{GivesValues}
+use Rattle.eq_cdcl.specs.inner.Halting.{GivesValues}
 use Rattle.eq_cdcl.proofs.search.values.Given as goal
 
 abbrev pub invariant-loop-before : goal.invariant-loop-before

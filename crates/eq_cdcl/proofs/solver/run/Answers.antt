@@ -2,8 +2,8 @@ use Rattle.std.proofs.Common.{List, length, subst}
 use Rattle.std.specs.Prelude.{All}
 use Rattle.std.proofs.lemmas.Result.{IfOk-weaker}
 use Rattle.eq_proof.specs.Literal.{Literal}
-use Rattle.eq_cdcl.specs.Judged.{IsLive}
-use Rattle.eq_cdcl.specs.Halting.{Halts}
+use Rattle.eq_cdcl.specs.inner.Judged.{IsLive}
+use Rattle.eq_cdcl.specs.inner.Halting.{Halts}
 use Rattle.eq_cdcl.specs.declared.search.Halt.TheVariants.{Satisfied}
 use Rattle.eq_cdcl.specs.inner.Answering.{IsAnswer, IsRefutation}
 use Rattle.eq_cdcl.proofs.Logging.{satisfied}

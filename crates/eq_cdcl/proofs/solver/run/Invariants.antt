@@ -1,10 +1,9 @@
 use Rattle.std.proofs.Common.{◌≡◌, ◌≤◌, ◌+◌, ◌-◌, ℕ, false, length}
 use Rattle.std.specs.Prelude.{All}
 use Rattle.eq_proof.specs.Assigned.{AllBelow}
-use Rattle.eq_cdcl.specs.Knowledge.{known_of}
-use Rattle.eq_cdcl.specs.Sound.{IsSound}
-use Rattle.eq_cdcl.specs.Resolved.{marked}
-use Rattle.eq_cdcl.specs.Logged.{IsLogged}
+use Rattle.eq_cdcl.specs.inner.Knowledge.{known_of, IsLogged}
+use Rattle.eq_cdcl.specs.inner.Sound.{IsSound}
+use Rattle.eq_cdcl.specs.inner.Resolved.{marked}
 use Rattle.eq_cdcl.specs.inner.Watched.{Watching}
 use Rattle.eq_cdcl.proofs.solver.run.Given as goal
 

@@ -5,7 +5,7 @@ use Rattle.std.proofs.lemmas.Result.{IfOk-weaker}
 use Rattle.eq_proof.specs.Satisfying.{SatisfiesAll}
 use Rattle.eq_proof.specs.Derivation.{AllDerive, EndsEmpty}
 use Rattle.eq_cdcl.specs.Answer.{IfSat, IfUnsat, IfSpent}
-use Rattle.eq_cdcl.specs.Assignment.{Assignment}
+use Rattle.eq_cdcl.specs.inner.Assignment.{Assignment}
 use Rattle.eq_cdcl.specs.Halting.{value_in}
 use Rattle.eq_cdcl.specs.Logged.{FreshBelow}
 use Rattle.eq_cdcl.specs.inner.Answering.{IsAnswer}

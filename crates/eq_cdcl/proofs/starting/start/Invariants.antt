@@ -1,6 +1,6 @@
 use Rattle.std.proofs.Common.{◌≡◌, take}
-use Rattle.eq_cdcl.specs.Asserting.{HasNoDecision}
-use Rattle.eq_cdcl.specs.Sound.{IsSound}
+use Rattle.eq_cdcl.specs.inner.Asserting.{HasNoDecision}
+use Rattle.eq_cdcl.specs.inner.Sound.{IsSound}
 use Rattle.eq_cdcl.specs.inner.Watched.{Watching}
 use Rattle.eq_cdcl.proofs.starting.start.Given as goal
 

@@ -1,5 +1,5 @@
 use Rattle.std.proofs.Common.{◌≡◌, ◌-◌, suc, ℕ, arith, subst, ◌∙◌}
-use Rattle.eq_cdcl.specs.Asserting.{Asserts}
+use Rattle.eq_cdcl.specs.inner.Asserting.{Asserts}
 use Rattle.eq_cdcl.proofs.Asserted.{asserts_cut, asserts_stay}
 use Rattle.eq_cdcl.proofs.analysis.Analysis.collect.Goals as goal
 

@@ -1,6 +1,6 @@
 use Rattle.std.proofs.Common.{◌≡◌, length}
-use Rattle.eq_cdcl.specs.Resolved.{IsResolved}
-use Rattle.eq_cdcl.specs.Asserting.{Asserts}
+use Rattle.eq_cdcl.specs.inner.Resolved.{IsResolved}
+use Rattle.eq_cdcl.specs.inner.Asserting.{Asserts}
 use Rattle.eq_cdcl.proofs.analysis.Analysis.collect.Given as goal
 
 abbrev pub invariant-loop-place : goal.invariant-loop-place

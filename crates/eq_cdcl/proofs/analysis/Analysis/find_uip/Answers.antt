@@ -1,6 +1,6 @@
 use Rattle.std.proofs.Common.{◌≡◌, ◌≤◌, ◌-◌, suc, inl, inr, sym, ap, arith, []}
 use Rattle.std.proofs.lemmas.Bool.{cases_lt}
-use Rattle.eq_cdcl.specs.Resolved.{opens}
+use Rattle.eq_cdcl.specs.inner.Resolved.{opens}
 use Rattle.eq_cdcl.proofs.Counting.{opens_miss, opens_hit, opens_none, opens_le}
 use Rattle.eq_cdcl.proofs.Resolving.{resolved_down}
 use Rattle.eq_cdcl.proofs.analysis.Analysis.find_uip.Goals as goal

@@ -1,5 +1,5 @@
 use Rattle.std.proofs.Common.{◌≡◌, ◌≤◌, [], length}
-use Rattle.eq_cdcl.specs.Resolved.{opens, IsResolved}
+use Rattle.eq_cdcl.specs.inner.Resolved.{opens, IsResolved}
 use Rattle.eq_cdcl.proofs.analysis.Analysis.find_uip.Given as goal
 
 abbrev pub invariant-loop-place : goal.invariant-loop-place

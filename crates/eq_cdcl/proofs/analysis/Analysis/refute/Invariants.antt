@@ -1,5 +1,5 @@
 use Rattle.std.proofs.Common.{◌≡◌, ◌≤◌, [], length}
-use Rattle.eq_cdcl.specs.Resolved.{IsResolved}
+use Rattle.eq_cdcl.specs.inner.Resolved.{IsResolved}
 use Rattle.eq_cdcl.proofs.analysis.Analysis.refute.Given as goal
 
 abbrev pub invariant-loop-place : goal.invariant-loop-place

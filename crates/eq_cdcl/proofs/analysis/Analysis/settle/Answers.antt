@@ -1,6 +1,6 @@
 use Rattle.std.proofs.Common.{◌≡◌, List, ℕ, sym, ap, subst, set, false}
-use Rattle.eq_cdcl.specs.Asserting.{Keeps}
-use Rattle.eq_cdcl.specs.Resolved.{IsResolved}
+use Rattle.eq_cdcl.specs.inner.Asserting.{Keeps}
+use Rattle.eq_cdcl.specs.inner.Resolved.{IsResolved}
 use Rattle.eq_cdcl.proofs.Resolving.{resolved_skip, resolved_kept, on_both}
 use Rattle.eq_cdcl.proofs.analysis.Analysis.settle.Goals as goal
 

@@ -1,5 +1,5 @@
 use Rattle.std.proofs.Common.{◌≡◌, ◌≤◌, length}
-use Rattle.eq_cdcl.specs.Assignment.{cut_to}
+use Rattle.eq_cdcl.specs.inner.Assignment.{cut_to}
 use Rattle.eq_cdcl.proofs.trail.Trail.cut.Given as goal
 
 abbrev pub invariant-loop-self : goal.invariant-loop-self

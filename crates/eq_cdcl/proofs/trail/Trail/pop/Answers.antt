@@ -1,7 +1,7 @@
 use Rattle.std.proofs.Common.{◌≡◌, length, ap, List, subst, arith}
 use Rattle.std.proofs.lemmas.List.{length-take, length_push}
 use Rattle.eq_proof.specs.Literal.{Literal}
-use Rattle.eq_cdcl.specs.Slots.{IsTrail}
+use Rattle.eq_cdcl.specs.inner.Slots.{IsTrail}
 use Rattle.eq_cdcl.specs.declared.trail.Reason.{Reason}
 use Rattle.eq_cdcl.proofs.Slotted.{trail_shortened}
 use Rattle.eq_cdcl.proofs.trail.Trail.pop.Goals as goal

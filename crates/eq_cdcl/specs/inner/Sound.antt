@@ -1,3 +1,4 @@
+-- Cited by proofs alone; nothing here has to be believed.
 -- What holds of a trail all the time: why each literal is on it.
 --
 -- Propagation runs to the end before each decision, so what stands before a decision is settled: it
@@ -9,7 +10,7 @@ use Rattle.eq_proof.specs.Sets.{IsUnit}
 use Rattle.eq_proof.specs.Assigned.{AllBelow}
 use Rattle.eq_proof.specs.Derivation.{HasNumber}
 use Rattle.eq_proof.specs.Fresh.{IsSettled}
-use Rattle.eq_cdcl.specs.Assignment.{Assignment}
+use Rattle.eq_cdcl.specs.inner.Assignment.{Assignment}
 use Rattle.eq_cdcl.specs.declared.trail.Reason.{Reason}
 use Rattle.eq_cdcl.specs.declared.trail.Reason.TheVariants.{Decision, Implied}
 

@@ -1,10 +1,11 @@
+-- Cited by proofs alone; nothing here has to be believed.
 -- What propagation finds.
 use Rattle.std.specs.Prelude.{ℕ, List, All}
 use Rattle.eq_proof.specs.Literal.{Literal}
 use Rattle.eq_proof.specs.Sets.{IsFalsified}
 use Rattle.eq_proof.specs.Derivation.{HasNumber}
 use Rattle.eq_proof.specs.Fresh.{IsSettled}
-use Rattle.eq_cdcl.specs.Judged.{IsLive}
+use Rattle.eq_cdcl.specs.inner.Judged.{IsLive}
 use Rattle.eq_cdcl.specs.declared.propagation.Propagated.{Propagated}
 use Rattle.eq_cdcl.specs.declared.propagation.Propagated.TheVariants.{Conflict, Settled}
 

@@ -1,6 +1,6 @@
 use Rattle.std.proofs.Common.{rules, ◌≡◌, ◌+◌, ◌++◌, ◌∷◌, [], length, arith, length-append}
 use Rattle.eq_proof.proofs.Division.{row_more, IsDivision-push}
-use Rattle.eq_proof.proofs.rows.Rows.push.Goals as goal
+use Rattle.eq_proof.proofs.rows.Rows.append.Goals as goal
 
 pub invariant_of-self-in-Ok : goal.invariant_of-self-in-Ok
 invariant_of-self-in-Ok g c =

@@ -1,3 +1,4 @@
+-- Cited by proofs alone; nothing here has to be believed.
 -- A trail kept with a slot for each variable, which says where its literal stands.
 use Rattle.std.specs.Prelude.{◌≡◌, ℕ, ◌<◌, ◌^◌, Bool, true, false, List, length, All, Contains, count_by, slice_get, Some, slice_index_or}
 use Rattle.eq_proof.specs.Literal.{Literal}

@@ -1,3 +1,4 @@
+-- Cited by proofs alone; nothing here has to be believed.
 -- Conflict analysis: from the end of the trail down, literals are resolved away by their reasons or kept.
 use Rattle.std.specs.Prelude.{◌≡◌, ℕ, ◌+◌, ◌<◌, ◌≤◌, ◌⊎◌, suc, zero, Bool, true, false, cond, nat_le, List, length, take, reverse, slice_get, Some, slice_index_or, All, Contains}
 use Rattle.eq_proof.specs.Literal.{Literal, negation}

@@ -1,3 +1,4 @@
+-- Cited by proofs alone; nothing here has to be believed.
 -- What a trail stands for.
 use Rattle.std.specs.Prelude.{ℕ, List, [], ◌∷◌, ◌++◌, take}
 use Rattle.eq_proof.specs.Literal.{Literal}

@@ -1,3 +1,4 @@
+-- Cited by proofs alone; nothing here has to be believed.
 -- What the kept literals say: which level the learned clause asserts a literal on.
 --
 -- The unique implication point is the only literal of the last level that is kept, so its negation l is the
@@ -9,7 +10,7 @@
 use Rattle.std.specs.Prelude.{◌≡◌, ◌≢◌, Bool, ℕ, ◌<◌, ◌≤◌, ◌⊎◌, true, List, ◌∷◌, [], ◌++◌, take, slice_get, Some, All}
 use Rattle.eq_proof.specs.Literal.{Literal, negation}
 use Rattle.eq_proof.specs.Sets.{IsFalse}
-use Rattle.eq_cdcl.specs.Resolved.{marked}
+use Rattle.eq_cdcl.specs.inner.Resolved.{marked}
 use Rattle.eq_cdcl.specs.declared.trail.Reason.{Reason}
 use Rattle.eq_cdcl.specs.declared.trail.Reason.TheVariants.{Decision}
 
