@@ -1,7 +1,7 @@
 -- One step along plain copies, and what is known of bits.
 use Rattle.std.proofs.Common.{◌≡◌, ◌≢◌, ℕ, suc, ◌+◌, ◌-◌, ◌<◌, ◌==◌, List, Bool, false, length, Option, Some, None, IfSome, arith, sym, ap, subst, ◌∙◌, inl, inr}
 use Rattle.std.proofs.lemmas.Bool.Decides.{eqb_tells}
-use Rattle.eq_elab.specs.Clocks.{end_of, is_bit}
+use Rattle.eq_verilog.specs.Clocks.{end_of, is_bit}
 use Rattle.eq_elab.specs.inner.Carrying.{mark_of}
 use Rattle.eq_elab.specs.inner.Clocking.{AreKnown, AreWithin, known_of, leads}
 use Rattle.eq_elab.proofs.Ends.{end_here, end_next, end_same}

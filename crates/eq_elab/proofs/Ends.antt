@@ -2,7 +2,7 @@
 use Rattle.std.proofs.Common.{◌≡◌, ℕ, zero, suc, ◌+◌, ◌-◌, ◌<◌, ◌≤◌, Option, Some, None, refl, arith, sym, ap, subst, ◌∙◌, ◌⊎◌, inl, inr}
 use Rattle.std.proofs.lemmas.Bool.{cases_lt}
 use Rattle.eq_net.specs.Meaning.{if_there}
-use Rattle.eq_elab.specs.Clocks.{end_of}
+use Rattle.eq_verilog.specs.Clocks.{end_of}
 use Rattle.eq_elab.proofs.Pigeons.{IsOneToOne, pigeonhole}
 
 pub cases_option : {A : Type 0} (o : Option A) → (o ≡ None) ⊎ ((a : A) × (o ≡ Some a))

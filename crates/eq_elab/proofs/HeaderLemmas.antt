@@ -17,7 +17,7 @@ use Rattle.eq_net.specs.Meaning.{if_there}
 use Rattle.eq_net.specs.Numbers.{differ}
 use Rattle.eq_net.specs.Nets.{net_of, range_of, side_of, width_of}
 use Rattle.eq_net.specs.Net.{IsClock, IsNet, IsPortNet, Parts, bits_of, name_at, net_at, nets_of, no_net}
-use Rattle.eq_elab.specs.Declarations.{comes_in, has}
+use Rattle.eq_verilog.specs.Declarations.{comes_in, has}
 use Rattle.eq_elab.specs.Ports.{first_port, is_input_of, net_named, port_width}
 use Rattle.eq_elab.specs.inner.Headers.{NonePasses, is_input_net, is_missing}
 use Rattle.eq_elab.proofs.Pigeons.{pigeonhole}

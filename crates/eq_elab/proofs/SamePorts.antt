@@ -10,10 +10,10 @@ use Rattle.eq_net.specs.Meaning.{if_there}
 use Rattle.eq_net.specs.Nets.{net_of, width_of}
 use Rattle.eq_net.specs.Net.{IsNet, Parts, design_of, name_at, net_at, nets_of}
 use Rattle.eq_net.specs.Numbers.{differ}
+use Rattle.eq_verilog.specs.Declarations.{has}
+use Rattle.eq_verilog.specs.Firsts.{first_of}
 use Rattle.eq_elab.specs.declared.ports.PortErr.{PortErr}
 use Rattle.eq_elab.specs.declared.ports.PortErr.TheVariants.{Missing, Direction, Width, Clock}
-use Rattle.eq_elab.specs.Declarations.{has}
-use Rattle.eq_elab.specs.Firsts.{first_of}
 use Rattle.eq_elab.specs.Ports.{HasEachPortOf, clock_clash, first_port, is_input_of, port_fault, port_width}
 use Rattle.eq_elab.specs.inner.Headers.{differs_in_direction, differs_in_width, is_input_net, is_missing}
 use Rattle.eq_elab.proofs.HeaderLemmas.{any_at, found_net, has_other, has_port, is_input_there, none_at, port_named, width_there}

@@ -23,10 +23,10 @@ use Rattle.eq_net.specs.Meaning.{if_there, table, copy_in, reads_of, all_copies_
 use Rattle.eq_net.specs.Net.{AreWords, HasBit, IsWord, NamesWord, Parts, bits_of, copy_of, design_of, driver_at, name_at, nets_of, no_net, number_of, offset, source_of, system_of, word_at}
 use Rattle.eq_net.specs.Numbers.{some_one}
 use Rattle.eq_net.specs.Tree.{Tree, const, read, pick, negated, opposite, binary, reduced, choice, empty, joined, extended}
-use Rattle.eq_elab.specs.Clocks.{end_of, is_bit, leads_to, takes_as_data}
-use Rattle.eq_elab.specs.Declarations.{goes_out}
-use Rattle.eq_elab.specs.Firsts.{first_below, one_below}
-use Rattle.eq_elab.specs.Nets as elab
+use Rattle.eq_verilog.specs.Clocks.{end_of, is_bit, leads_to, takes_as_data}
+use Rattle.eq_verilog.specs.Declarations.{goes_out}
+use Rattle.eq_verilog.specs.Firsts.{first_below, one_below}
+use Rattle.eq_verilog.specs.Nets as elab
 use Rattle.eq_elab.specs.Ports.{is_output_of}
 use Rattle.eq_elab.specs.declared.marks.Way.TheVariants.{Copies, Reads}
 use Rattle.eq_elab.specs.inner.Carrying.{HasRows, mark_of, rows_mark}

@@ -8,15 +8,15 @@ use Rattle.eq_names.specs.declared.BitName.{BitName}
 use Rattle.eq_net.specs.declared.net.Net.{Net as Netlist}
 use Rattle.eq_net.specs.Net.{design_of as meaning_of}
 use Rattle.eq_net.specs.Whole.{parts_of}
-use Rattle.eq_elab.specs.declared.refusal.ElabErr.{ElabErr}
-use Rattle.eq_elab.specs.declared.refusal.ElabErr.TheVariants as err
+use Rattle.eq_verilog.specs.declared.refusal.ElabErr.{ElabErr}
+use Rattle.eq_verilog.specs.declared.refusal.ElabErr.TheVariants as err
+use Rattle.eq_verilog.specs.Trees.{Name, ModuleTree}
+use Rattle.eq_verilog.specs.Nets.{bit_name}
+use Rattle.eq_verilog.specs.Costs.{design_cost}
+use Rattle.eq_verilog.specs.Designs.{flat_of, design_of}
+use Rattle.eq_verilog.specs.Refusals.{IsRefusedFor, IsAccepted, at, too_large, looped}
 use Rattle.eq_elab.specs.declared.ports.PortErr.{PortErr}
 use Rattle.eq_elab.specs.declared.ports.PortErr.TheVariants as port
-use Rattle.eq_elab.specs.Trees.{Name, ModuleTree}
-use Rattle.eq_elab.specs.Nets.{bit_name}
-use Rattle.eq_elab.specs.Costs.{design_cost}
-use Rattle.eq_elab.specs.Designs.{flat_of, design_of}
-use Rattle.eq_elab.specs.Refusals.{IsRefusedFor, IsAccepted, at, too_large, looped}
 use Rattle.eq_elab.specs.Ports.{port_fault}
 
 -- the design that a netlist stands for

@@ -7,12 +7,12 @@ use Rattle.eq_net.specs.Meaning.{if_there}
 use Rattle.eq_net.specs.Net.{Parts, net_at}
 use Rattle.eq_net.specs.Nets.{width_of}
 use Rattle.eq_net.specs.Numbers.{differ}
+use Rattle.eq_verilog.specs.Declarations.{has, comes_in, goes_out}
+use Rattle.eq_verilog.specs.Nets.{offset}
+use Rattle.eq_verilog.specs.Clocks.{takes_as_data}
+use Rattle.eq_verilog.specs.Firsts.{first_of, one_below}
 use Rattle.eq_elab.specs.declared.ports.PortErr.{PortErr}
 use Rattle.eq_elab.specs.declared.ports.PortErr.TheVariants.{Missing, Direction, Width, Clock, Memory}
-use Rattle.eq_elab.specs.Declarations.{has, comes_in, goes_out}
-use Rattle.eq_elab.specs.Nets.{offset}
-use Rattle.eq_elab.specs.Clocks.{takes_as_data}
-use Rattle.eq_elab.specs.Firsts.{first_of, one_below}
 
 -- the net of a port
 abbrev pub net_named : Design → NetName → Option Net

@@ -6,15 +6,16 @@ ghost use Rattle.eq_net.specs.Net as spec_net;
 ghost use Rattle.eq_net.specs.Net.{name_at};
 ghost use Rattle.eq_net.specs.Nets.{net_of};
 ghost use Rattle.eq_net.specs.Numbers.{differ as differ_of};
+ghost use Rattle.eq_verilog.specs.Declarations.{has};
 ghost use Rattle.eq_elab.specs.Answers.{meaning};
-ghost use Rattle.eq_elab.specs.Declarations.{has};
 ghost use Rattle.eq_elab.specs.Ports.{first_port, net_named};
 ghost use Rattle.eq_elab.specs.inner.Headers as spec;
 
-use crate::again::has_name;
+use eq_analysis::has_name;
 use eq_base::Memory;
 use eq_names::{Name, NameTable};
 use eq_net::{Dir, Net, NetInfo};
+use eq_verilog::laws::names_by_number;
 use std::alloc::Global;
 
 /// How many ports there are.
@@ -60,6 +61,7 @@ pub fn port_number(net: &Net, names: &NameTable, name: &Name) -> Option<u32>
     ensures named { IfSome result (λ k. name_at net.now.nets k ≡ name.now) }
     ensures found { is_some result ≡ has (meaning net.now).ports name.now }
 {
+    names_by_number();
     match names.find(name.bytes()) {
         Some(place) => Some(port_at(net, place)),
         None => None,

@@ -1,8 +1,8 @@
 //! Why two designs can't be compared, and whether they can.
 
 ghost use Rattle.std.specs.Prelude.{◌≡◌, ℕ, Bool, Ok, Err, IfOk, IfSome, IsErrOf, None, OnOk, Some, option_copied, true};
+ghost use Rattle.eq_verilog.specs.Declarations.{has};
 ghost use Rattle.eq_elab.specs.Answers.{ComparesPorts, meaning};
-ghost use Rattle.eq_elab.specs.Declarations.{has};
 ghost use Rattle.eq_elab.specs.Ports as spec;
 ghost use Rattle.eq_elab.specs.Ports.{IsPortAnswer, clock_clash, first_port, port_fault};
 ghost use Rattle.eq_elab.specs.inner.Comparing as parts;

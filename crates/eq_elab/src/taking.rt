@@ -4,9 +4,9 @@ ghost use Rattle.std.specs.Prelude.{◌≡◌, ◌+◌, ◌<◌, ◌^◌, ◌++�
 ghost use Rattle.eq_net.specs.Net.{bits_of, name_at, offset};
 ghost use Rattle.eq_net.specs.Numbers.{some_one};
 ghost use Rattle.eq_net.specs.Whole.{parts_of};
+ghost use Rattle.eq_verilog.specs.Clocks.{takes_as_data};
+ghost use Rattle.eq_verilog.specs.Firsts.{one_below};
 ghost use Rattle.eq_elab.specs.Answers.{meaning};
-ghost use Rattle.eq_elab.specs.Clocks.{takes_as_data};
-ghost use Rattle.eq_elab.specs.Firsts.{one_below};
 ghost use Rattle.eq_elab.specs.Ports as ports;
 ghost use Rattle.eq_elab.specs.inner.Carrying.{BeginAt, rows_mark};
 ghost use Rattle.eq_elab.specs.inner.Taking as spec;

@@ -1,7 +1,7 @@
 -- Mirrors src/clocking.rt; nothing here has to be believed.
 -- The class of a clock while it is found.
 use Rattle.std.specs.Prelude.{◌≡◌, ℕ, ◌<◌, List, Bool, length, slice_index_or, Option, Some, None, IfSome, is_some}
-use Rattle.eq_elab.specs.Clocks.{leads_to}
+use Rattle.eq_verilog.specs.Clocks.{leads_to}
 use Rattle.eq_elab.specs.inner.Carrying.{mark_of}
 
 -- bits are copies of bits

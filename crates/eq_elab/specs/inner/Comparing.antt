@@ -4,9 +4,9 @@ use Rattle.std.specs.Prelude.{ℕ, [], ◌∷◌, Bool, true, false, if◌then�
 use Rattle.eq_model.specs.Nets.{NetName}
 use Rattle.eq_model.specs.Run.{Design}
 use Rattle.eq_net.specs.Meaning.{if_there}
+use Rattle.eq_verilog.specs.Firsts.{first_of}
 use Rattle.eq_elab.specs.declared.ports.PortErr.{PortErr}
 use Rattle.eq_elab.specs.declared.ports.PortErr.TheVariants.{Missing, Direction, Width, Clock}
-use Rattle.eq_elab.specs.Firsts.{first_of}
 use Rattle.eq_elab.specs.Ports.{clock_clash, first_port}
 use Rattle.eq_elab.specs.inner.Headers.{differs_in_direction, differs_in_width, is_missing}
 

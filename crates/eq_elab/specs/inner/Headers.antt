@@ -6,7 +6,7 @@ use Rattle.eq_model.specs.Run.{Design}
 use Rattle.eq_net.specs.declared.types.Dir.{Dir}
 use Rattle.eq_net.specs.declared.types.Dir.TheVariants.{Inner, Input as InputPort, Output as OutputPort}
 use Rattle.eq_net.specs.Numbers.{differ}
-use Rattle.eq_elab.specs.Declarations.{has}
+use Rattle.eq_verilog.specs.Declarations.{has}
 use Rattle.eq_elab.specs.Ports.{is_input_of, port_width}
 
 abbrev pub is_missing : List NetName → NetName → Bool

@@ -8,7 +8,7 @@ use Rattle.eq_net.specs.declared.types.Driver.TheVariants.{Input, Undriven, Expr
 use Rattle.eq_net.specs.declared.types.NetInfo.{NetInfo}
 use Rattle.eq_net.specs.Nets.{width_of}
 use Rattle.eq_net.specs.Net.{Parts, bits_of, design_of}
-use Rattle.eq_elab.specs.Clocks.{leads_to}
+use Rattle.eq_verilog.specs.Clocks.{leads_to}
 use Rattle.eq_elab.specs.inner.Carrying.{mark_of}
 use Rattle.eq_elab.specs.inner.Clocking.{AreWithin}
 

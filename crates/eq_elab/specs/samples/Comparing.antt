@@ -1,9 +1,9 @@
 -- Designs whose ports are compared.
 use Rattle.std.specs.Prelude.{List, [], ◌∷◌}
 use Rattle.eq_vparse.specs.declared.tree.DeclKind.TheVariants as kind
-use Rattle.eq_elab.specs.Trees.{net, set, declared, always, ModuleTree}
-use Rattle.eq_elab.specs.samples.Writing.{a, b, y, q, clk, range, sized, ins, outs, reg, gets, begun, alone, simple}
-use Rattle.eq_elab.specs.samples.Clocking.{timed}
+use Rattle.eq_verilog.specs.Trees.{net, set, declared, always, ModuleTree}
+use Rattle.eq_verilog.specs.samples.Writing.{a, b, y, q, clk, range, sized, ins, outs, reg, gets, begun, alone, simple}
+use Rattle.eq_verilog.specs.samples.Clocking.{timed}
 
 -- module t(input a, output y); assign y = a; endmodule
 abbrev pub wires : List ModuleTree

@@ -1,11 +1,11 @@
 //! When the ports of two designs fit: by name, in any order. Ports are told by their numbers in the header.
 ghost use Rattle.std.specs.Prelude.{◌≡◌, true, false, [], ◌∷◌, Some, None};
+ghost use Rattle.eq_verilog.specs.Designs.{design_of};
+ghost use Rattle.eq_verilog.specs.samples.Writing.{t};
+ghost use Rattle.eq_verilog.specs.samples.Assignments as assignment;
+ghost use Rattle.eq_verilog.specs.samples.Clocking as clocking;
 ghost use Rattle.eq_elab.specs.declared.ports.PortErr.TheVariants.{Missing, Direction, Width, Clock};
-ghost use Rattle.eq_elab.specs.Designs.{design_of};
 ghost use Rattle.eq_elab.specs.Ports.{port_fault};
-ghost use Rattle.eq_elab.specs.samples.Writing.{t};
-ghost use Rattle.eq_elab.specs.samples.Assignments as assignment;
-ghost use Rattle.eq_elab.specs.samples.Clocking as clocking;
 ghost use Rattle.eq_elab.specs.samples.Comparing as comparing;
 
 /// Ports that one side lacks, or that have another direction or width.

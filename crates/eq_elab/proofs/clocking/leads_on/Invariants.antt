@@ -1,5 +1,5 @@
 use Rattle.std.proofs.Common.{◌≡◌, ◌-◌, ◌<◌, length}
-use Rattle.eq_elab.specs.Clocks.{end_of}
+use Rattle.eq_verilog.specs.Clocks.{end_of}
 use Rattle.eq_elab.specs.inner.Carrying.{mark_of}
 use Rattle.eq_elab.specs.inner.Clocking.{leads}
 use Rattle.eq_elab.proofs.clocking.leads_on.Given as goal

@@ -1,7 +1,7 @@
 use Rattle.std.proofs.Common.{List, ℕ, arith, sym, ap, ◌∙◌}
 use Rattle.eq_net.specs.Net.{name_at}
+use Rattle.eq_verilog.specs.Declarations.{has}
 use Rattle.eq_elab.specs.Answers.{meaning}
-use Rattle.eq_elab.specs.Declarations.{has}
 use Rattle.eq_elab.specs.inner.Headers.{differs_in_direction}
 use Rattle.eq_elab.proofs.HeaderLemmas.{first_here, first_nowhere, has_at}
 use Rattle.eq_elab.proofs.headers.first_direction.Goals as goal

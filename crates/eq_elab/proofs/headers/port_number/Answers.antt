@@ -2,7 +2,6 @@ use Rattle.std.proofs.Common.{ℕ, List, Option, ap, ◌∙◌}
 use Rattle.std.specs.Prelude.{is_some}
 use Rattle.eq_names.specs.Tables.{number_of}
 use Rattle.eq_elab.specs.Answers.{meaning}
-use Rattle.eq_elab.proofs.AgainLemmas.{found_has}
 use Rattle.eq_elab.proofs.HeaderLemmas.{found_at}
 use Rattle.eq_elab.proofs.headers.port_number.Goals as goal
 
@@ -20,7 +19,7 @@ returns-in-Some-clause-found c =
     let name = c.args.name.now in
     let is = c.in-Some.ensures ∙ ap (λ (ns : List (List ℕ)). number_of ns c.bytes.result.now) c.requires.names ∙ ap (λ
     (n : List ℕ). number_of ports n) c.bytes.ensures.bytes in
-    ap (λ (o : Option ℕ). is_some o) is ∙ found_has ports name
+    ap (λ (o : Option ℕ). is_some o) is ∙ c.names_by_number.ensures ports name
 
 pub returns-in-None-clause-found : goal.returns-in-None-clause-found
 returns-in-None-clause-found c =
@@ -28,4 +27,4 @@ returns-in-None-clause-found c =
     let name = c.args.name.now in
     let is = c.in-None.ensures ∙ ap (λ (ns : List (List ℕ)). number_of ns c.bytes.result.now) c.requires.names ∙ ap (λ
     (n : List ℕ). number_of ports n) c.bytes.ensures.bytes in
-    ap (λ (o : Option ℕ). is_some o) is ∙ found_has ports name
+    ap (λ (o : Option ℕ). is_some o) is ∙ c.names_by_number.ensures ports name

@@ -2,7 +2,7 @@ use Rattle.std.proofs.Common.{map, ap, ◌∙◌}
 use Rattle.eq_net.specs.Net.{name_at}
 use Rattle.eq_net.specs.Whole.{parts_of}
 use Rattle.eq_net.specs.declared.types.NetInfo.{NetInfo}
-use Rattle.eq_elab.specs.Declarations.{has}
+use Rattle.eq_verilog.specs.Declarations.{has}
 use Rattle.eq_elab.proofs.HeaderLemmas.{clock_port, has_port}
 use Rattle.eq_elab.proofs.ports.clock_name.Goals as goal
 

@@ -1,8 +1,8 @@
 use Rattle.std.proofs.Common.{IfOk, ℕ, Result, Ok, Err, ap, sym, ◌∙◌}
 use Rattle.eq_net.specs.Net.{bits_of}
+use Rattle.eq_verilog.specs.Clocks.{takes_as_data}
+use Rattle.eq_verilog.specs.Firsts.{one_below}
 use Rattle.eq_elab.specs.Answers.{meaning}
-use Rattle.eq_elab.specs.Clocks.{takes_as_data}
-use Rattle.eq_elab.specs.Firsts.{one_below}
 use Rattle.eq_elab.specs.Ports.{is_output_of}
 use Rattle.eq_elab.proofs.TakingLemmas.{named_offset}
 use Rattle.eq_elab.proofs.taking.takes_port.Goals as goal

@@ -1,0 +1,17 @@
+pub mod AgainLemmas
+pub mod FirstLemmas
+pub mod NamingLemmas
+pub mod Sources
+pub mod StackLemmas
+pub mod Measured
+pub mod VisitLemmas
+pub mod BesideLemmas
+pub mod DeclaredLemmas
+pub mod HavingLemmas
+pub mod DuplicateLemmas
+pub mod MentionLemmas
+pub mod RangeLemmas
+pub mod NamedLemmas
+pub mod PlacingLemmas
+pub mod MarkLemmas
+pub mod TargetLemmas

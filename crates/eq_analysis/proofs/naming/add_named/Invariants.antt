@@ -1,0 +1,11 @@
+use Rattle.std.proofs.Common.{◌≡◌, [], take}
+use Rattle.std.specs.Prelude.{flat_map, option_map}
+use Rattle.eq_net.specs.Meaning.{if_there}
+use Rattle.eq_verilog.specs.Trees.{expr_tree}
+use Rattle.eq_verilog.specs.Declarations.{names_in}
+use Rattle.eq_analysis.specs.Naming.{with_names}
+use Rattle.eq_analysis.proofs.naming.add_named.Given as goal
+
+abbrev pub invariant-loop-named : goal.invariant-loop-named
+invariant-loop-named l = l.found.table ≡ with_names l.fn.found.table
+    (flat_map (λ n. if_there [] names_in (option_map expr_tree n.expr)) (take l.named-index l.all))

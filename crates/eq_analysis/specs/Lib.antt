@@ -1,0 +1,9 @@
+pub mod Declaring
+pub mod Finding
+pub mod Marking
+pub mod Measuring
+pub mod Naming
+pub mod Ordering
+pub mod Placing
+pub mod Tabling
+pub mod inner

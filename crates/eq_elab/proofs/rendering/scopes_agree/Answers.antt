@@ -1,5 +1,0 @@
-use Rattle.eq_elab.proofs.Agreeing.{makes_alike}
-use Rattle.eq_elab.proofs.rendering.scopes_agree.Goals as goal
-
-pub returns : goal.returns
-returns c = makes_alike

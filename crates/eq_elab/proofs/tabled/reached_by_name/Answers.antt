@@ -1,5 +1,0 @@
-use Rattle.eq_elab.proofs.NamedLemmas.{reached_named}
-use Rattle.eq_elab.proofs.tabled.reached_by_name.Goals as goal
-
-pub returns : goal.returns
-returns c = reached_named

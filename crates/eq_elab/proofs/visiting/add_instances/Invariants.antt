@@ -1,8 +1,0 @@
-use Rattle.eq_elab.proofs.StackLemmas.{ArePushed}
-use Rattle.eq_elab.proofs.visiting.add_instances.Given as goal
-
-abbrev pub invariant-loop-place : goal.invariant-loop-place
-invariant-loop-place l = ArePushed l.items l.left l.fn.stack.items l.place l.stack.items
-
-abbrev pub decreases-loop-place : goal.decreases-loop-place
-decreases-loop-place l = l.place

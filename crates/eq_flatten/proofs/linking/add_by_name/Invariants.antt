@@ -1,0 +1,17 @@
+use Rattle.std.proofs.Common.{map, take}
+use Rattle.std.specs.Prelude.{flat_map, sum_by}
+use Rattle.eq_net.specs.Tree.{trees_of}
+use Rattle.eq_verilog.specs.Trees.{named_tree}
+use Rattle.eq_analysis.specs.Finding.{scope_of}
+use Rattle.eq_analysis.specs.Tabling.{tree_at}
+use Rattle.eq_flatten.specs.Equating.{AddsEquations}
+use Rattle.eq_flatten.specs.Linking.{maybe_cost, maybe_equations, named_connection}
+use Rattle.eq_flatten.proofs.linking.add_by_name.Given as goal
+
+abbrev pub invariant-loop-named : goal.invariant-loop-named
+invariant-loop-named l =
+    AddsEquations l.nets (trees_of l.fn.words) (trees_of l.words) l.fn.slots l.slots
+    (flat_map (maybe_equations (scope_of l.nets l.inner l.first) (scope_of l.nets l.names l.from) (tree_at l.inside))
+    (map (named_connection (tree_at l.inside)) (map named_tree (take l.named-index l.all))))
+    (sum_by (maybe_cost (scope_of l.nets l.inner l.first) (scope_of l.nets l.names l.from) (tree_at l.inside))
+    (map (named_connection (tree_at l.inside)) (map named_tree (take l.named-index l.all))))

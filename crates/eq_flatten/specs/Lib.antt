@@ -1,0 +1,15 @@
+pub mod Forms
+pub mod Meant
+pub mod Rendering
+pub mod Paths
+pub mod Flat
+pub mod Driving
+pub mod Equating
+pub mod Gating
+pub mod Items
+pub mod Owning
+pub mod Linking
+pub mod Joining
+pub mod Flattening
+pub mod Summing
+pub mod inner

@@ -1,0 +1,9 @@
+pub mod Indices
+pub mod Loops
+pub mod Offsets
+pub mod Outcomes
+pub mod PureTrees
+pub mod Places
+pub mod Respects
+pub mod Totals
+pub mod Numbers
