@@ -1,0 +1,11 @@
+pub mod Numbers
+pub mod LineLemmas
+pub mod OperatorLemmas
+pub mod FormLemmas
+pub mod Running
+pub mod PartLemmas
+pub mod StatementLemmas
+pub mod SeenLemmas
+pub mod ConnectionLemmas
+pub mod ItemLemmas
+pub mod ValueLemmas
