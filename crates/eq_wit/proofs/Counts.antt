@@ -67,3 +67,18 @@ few_clauses part q k few_nodes few_outputs small =
     (length-append b (c ++ last) ∙ ap (λ (x : ℕ). length b + x) (length-append c last)) in
     let mapped = length-map (rows part.nodes part.outputs q k) ordered in
     omega (arith, first, first_less, second, second_less, third, all, mapped, few_outputs)
+
+-- and one at least
+pub some_clauses : (part : Part) (q : Query) (k : ℕ) → 1 ≤ length (unrolled part q k)
+some_clauses part q k =
+    let n = length part.nodes in
+    let m = length part.outputs in
+    let a = frame_rows part.nodes q (frame_count q k) in
+    let b = agreement_rows n part.outputs (agreeing q k) in
+    let c = difference_rows n part.outputs (last_frame q k) (frame_count q k) in
+    let last = output_literals (frame_count q k * n) m ∷ [] in
+    let all : length (rows part.nodes part.outputs q k) ≡ length a + (length b + (length c + 1)) =
+    length-append a (b ++ (c ++ last)) ∙ ap (λ (x : ℕ). length a + x)
+    (length-append b (c ++ last) ∙ ap (λ (x : ℕ). length b + x) (length-append c last)) in
+    let mapped = length-map (rows part.nodes part.outputs q k) ordered in
+    omega (arith, all, mapped)

@@ -6,6 +6,7 @@ pub mod Decoding
 pub mod Divisions
 pub mod EndLemmas
 pub mod FaultHere
+pub mod FollowLemmas
 pub mod Forms
 pub mod Forward
 pub mod GoesOn
@@ -26,6 +27,7 @@ pub mod Outcomes
 pub mod PieceRuns
 pub mod Plain
 pub mod QuestionLemmas
+pub mod ReadLemmas
 pub mod SameLines
 pub mod Sizes
 pub mod StandingOn

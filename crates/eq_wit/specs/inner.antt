@@ -1,3 +1,4 @@
+pub mod Counting
 pub mod EvidenceProp
 pub mod Items
 pub mod Judging

@@ -3,11 +3,12 @@
 ghost use Rattle.std.specs.Prelude.{◌≡◌, ◌-◌, ◌<◌, ◌≤◌, IfOk};
 ghost use Rattle.eq_unroll.specs.Query.{IsUnrollable, frame_count};
 ghost use Rattle.eq_wit.specs.declared.state.State.TheVariants as XState;
+ghost use Rattle.eq_wit.specs.inner.Counting.{AreCounts};
 ghost use Rattle.eq_wit.specs.inner.Items as spec;
 ghost use Rattle.eq_wit.specs.inner.Reading.{behind_query as spec_behind_query, in_frames as spec_in_frames, in_steps as spec_in_steps, log_answer as spec_log_answer, one_less as spec_one_less, with_answer as spec_with_answer};
 
+use crate::counted::Counts;
 use crate::dividing::Words;
-use crate::print::first_number;
 use crate::questions::question;
 use crate::state::{Due, Open, Question, State, Steps, Stop, Tally};
 use crate::truths::bits;
@@ -75,18 +76,21 @@ fn in_frames(
 }
 
 /// Behind the registers of a run.
-fn regs(
+pub fn regs(
     alloc: Global,
     tally: Tally,
     attempt: Open,
     query: Query,
     k: u32,
     words: &Words,
+    counts: &mut Counts,
 ) -> Result<State, Stop>
-    requires { IsUnrollable tally.part k }
-    ensures { spec.Judges (XState.Regs tally attempt query k) words.now result }
+    requires may { IsUnrollable tally.part k }
+    requires counts { AreCounts tally.part counts.old }
+    ensures judges { spec.Judges (XState.Regs tally attempt query k) words.now result }
+    ensures kept { AreCounts tally.part counts.new }
 {
-    let count = tally.part.register_count();
+    let count = counts.registers_of(&tally.part);
     match bits(alloc, words, b"regs", count) {
         Ok(regs) => {
             let run = Run {
@@ -100,7 +104,7 @@ fn regs(
 }
 
 /// Behind a cycle of a run, where one more is due.
-fn frame(
+pub fn frame(
     alloc: Global,
     tally: Tally,
     attempt: Open,
@@ -164,10 +168,13 @@ fn behind_query(
     tally: Tally,
     attempt: Open,
     asked: Question,
+    counts: &mut Counts,
 ) -> Result<State, Memory>
-    requires { IsUnrollable tally.part asked.k }
-    ensures { IfOk result (λ next.
+    requires may { IsUnrollable tally.part asked.k }
+    requires counts { AreCounts tally.part counts.old }
+    ensures next { IfOk result (λ next.
         next ≡ spec_behind_query tally attempt asked.query asked.k asked.due) }
+    ensures kept { AreCounts tally.part counts.new }
 {
     let Question { query, k, due } = asked;
     match due {
@@ -175,7 +182,7 @@ fn behind_query(
         Due::Log(spent, left) => {
             let steps = Steps {
                 spent,
-                first: first_number(&tally.part, query, k),
+                first: counts.first_number(&tally.part, query, k),
                 log: Log::new(alloc),
                 left,
             };
@@ -185,13 +192,21 @@ fn behind_query(
 }
 
 /// Behind a query, where one more is due.
-fn one_query(alloc: Global, tally: Tally, attempt: Open, words: &Words) -> Result<State, Stop>
+pub fn one_query(
+    alloc: Global,
+    tally: Tally,
+    attempt: Open,
+    words: &Words,
+    counts: &mut Counts,
+) -> Result<State, Stop>
     requires some { 0 < attempt.left }
     requires may { IsUnrollable tally.part 1 }
-    ensures { spec.Judges (XState.Queries tally attempt) words.now result }
+    requires counts { AreCounts tally.part counts.old }
+    ensures judges { spec.Judges (XState.Queries tally attempt) words.now result }
+    ensures kept { AreCounts tally.part counts.new }
 {
     match question(words, &tally.part) {
-        Ok(asked) => Ok(behind_query(alloc, tally, one_less(attempt), asked)?),
+        Ok(asked) => Ok(behind_query(alloc, tally, one_less(attempt), asked, counts)?),
         Err(stop) => Err(stop),
     }
 }

@@ -77,7 +77,7 @@ fn grown(steps: Steps, lits: &[Lit], ants: &[u64]) -> Result<Steps, Memory>
 }
 
 /// Behind a step, where one more is due. The literals and the antecedents are kept in place of others.
-fn one_step(
+pub fn one_step(
     tally: Tally,
     attempt: Open,
     query: Query,

@@ -19,7 +19,7 @@ use eq_names::{Name, Names};
 use std::alloc::Global;
 
 /// Behind the first line.
-fn titled(alloc: Global, words: &Words) -> Result<State, Stop>
+pub fn titled(alloc: Global, words: &Words) -> Result<State, Stop>
     ensures { spec.Judges XState.Titled words.now result }
 {
     match part_name(alloc, words) {
@@ -29,7 +29,7 @@ fn titled(alloc: Global, words: &Words) -> Result<State, Stop>
 }
 
 /// Behind the name of the part.
-fn named(alloc: Global, name: Name, words: &Words) -> Result<State, Stop>
+pub fn named(alloc: Global, name: Name, words: &Words) -> Result<State, Stop>
     ensures { spec.Judges (XState.Named name) words.now result }
 {
     match count(words, b"inputs", 0xFFFF_FFFF) {
@@ -91,6 +91,17 @@ fn inputs_over(alloc: Global, draft: Draft, words: &Words) -> Result<State, Stop
             Ok(State::Nodes(draft, seen, left))
         }
         Err(stop) => Err(stop),
+    }
+}
+
+/// Behind an input, or behind the number of nodes where none is due.
+pub fn next_input(alloc: Global, draft: Draft, left: u32, words: &Words) -> Result<State, Stop>
+    ensures { spec.Judges (XState.Inputs draft left) words.now result }
+{
+    if left == 0 {
+        inputs_over(alloc, draft, words)
+    } else {
+        one_input(alloc, draft, left, words)
     }
 }
 
@@ -190,6 +201,18 @@ fn one_node(draft: Draft, seen: Bits, left: u32, words: &Words) -> Result<State,
     }
 }
 
+/// Behind a node, or behind the number of outputs where none is due.
+pub fn next_node(draft: Draft, seen: Bits, left: u32, words: &Words) -> Result<State, Stop>
+    requires { Stands (XState.Nodes draft seen left) }
+    ensures { spec.Judges (XState.Nodes draft seen left) words.now result }
+{
+    if left == 0 {
+        nodes_over(draft, seen, words)
+    } else {
+        one_node(draft, seen, left, words)
+    }
+}
+
 /// The part of a draft that is read whole.
 fn whole(draft: Draft) -> Part
     requires { Stands (XState.Outputs draft 0) }
@@ -223,5 +246,17 @@ fn outputs_over(alloc: Global, draft: Draft, words: &Words) -> Result<State, Sto
             left,
         })),
         Err(stop) => Err(stop),
+    }
+}
+
+/// Behind an output, or behind the number of tries where none is due.
+pub fn next_output(alloc: Global, draft: Draft, left: u32, words: &Words) -> Result<State, Stop>
+    requires { Stands (XState.Outputs draft left) }
+    ensures { spec.Judges (XState.Outputs draft left) words.now result }
+{
+    if left == 0 {
+        outputs_over(alloc, draft, words)
+    } else {
+        one_output(alloc, draft, left, words)
     }
 }

@@ -77,7 +77,7 @@ fn with_try(tally: Tally, attempt: Open, end: End) -> Result<Tally, Memory>
 }
 
 /// Behind the last line of a try.
-fn query_over(tally: Tally, attempt: Open, words: &Words) -> Result<State, Stop>
+pub fn query_over(tally: Tally, attempt: Open, words: &Words) -> Result<State, Stop>
     requires over { attempt.left ≡ 0 }
     requires few { length tally.tries < 2 ^ 32 }
     ensures { spec.Judges (XState.Queries tally attempt) words.now result }
@@ -89,7 +89,7 @@ fn query_over(tally: Tally, attempt: Open, words: &Words) -> Result<State, Stop>
 }
 
 /// What the last of the tries says.
-fn verdict(tries: &[Try]) -> PartVerdict
+pub fn verdict(tries: &[Try]) -> PartVerdict
     ensures { result ≡ verdict_of (slice_get tries.now (length tries.now - 1)) }
 {
     let Some(last) = tries.last() else {
@@ -137,8 +137,19 @@ fn tries_over(tally: Tally, words: &Words) -> Result<State, Stop>
     }
 }
 
+/// Behind the first line of a try, or behind the verdict where none is due.
+pub fn next_try(alloc: Global, tally: Tally, words: &Words) -> Result<State, Stop>
+    ensures { spec.Judges (XState.Tries tally) words.now result }
+{
+    if tally.left == 0 {
+        tries_over(tally, words)
+    } else {
+        one_try(alloc, tally, words)
+    }
+}
+
 /// Behind the last line.
-fn closing(tally: Tally, words: &Words) -> Result<State, Stop>
+pub fn closing(tally: Tally, words: &Words) -> Result<State, Stop>
     ensures { spec.Judges (XState.Closing tally) words.now result }
 {
     if is_one(words, b"end") {

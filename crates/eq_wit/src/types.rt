@@ -3,7 +3,7 @@
 ghost use Rattle.eq_wit.specs.Evidence.{MakeEvidence};
 ghost use Rattle.eq_wit.specs.inner.EvidenceProp.{MakeEvidence-prop};
 
-use eq_base::Items;
+use eq_base::{Items, Memory};
 use eq_bits::Part;
 use eq_induct::Decided;
 use eq_names::Name;
@@ -46,4 +46,15 @@ pub enum WitErr {
     /// The first line, counted from 1, that no evidence continues with.
     At { line: u32, kind: WitKind },
     Memory,
+}
+
+impl From<Memory> for WitErr {
+    ghost use Rattle.std.specs.Prelude.{◌≡◌};
+    ghost use Rattle.eq_wit.specs.declared.types.WitErr.TheVariants.{Memory as NoMemory};
+
+    ghost from_gives = { λ _ e. e ≡ NoMemory };
+
+    fn from(_: Memory) -> WitErr {
+        WitErr::Memory
+    }
 }

@@ -1,9 +1,9 @@
 //! Runs the proved libraries on the files of its folder, so that a script can time them. It is no part of EQY.
 //!
 //! With the word `tokens`, `tree` or `print` it reads `netlist.v` and cuts it into tokens, or reads its tree as well, or
-//! prints that too; with `check` it checks `log.lrat` against `formula.cnf`; with `config` it reads `job.eqy`; with `graph` it makes
-//! a graph of a million nodes, and with `formula` a formula of a million clauses. Without a word it does all seven, with a
-//! small graph and a small formula.
+//! prints that too; with `check` it checks `log.lrat` against `formula.cnf`; with `config` it reads `job.eqy`, and with
+//! `evidence` it reads `evidence.txt`; with `graph` it makes a graph of a million nodes, and with `formula` a formula of a
+//! million clauses. Without a word it does all eight, with a small graph and a small formula.
 //! Each puts a line with a count. The status is 0 where all could be done, and the log ends with the empty clause.
 //!
 //! - `graph`: what is made without a file.
@@ -17,6 +17,7 @@ use eq_io::{DirStore, Got, OutSink, Sink, Store};
 use eq_proof::{check, read_dimacs, read_lrat};
 use eq_vlex::{Tokens, tokens};
 use eq_vparse::{Source, parse, print_source};
+use eq_wit::read_evidence;
 use std::alloc::Global;
 use std::env::Env;
 use std::process::ExitCode;
@@ -24,7 +25,7 @@ use std::process::ExitCode;
 /// The most bytes of a file, and so the most tokens and clauses.
 const MOST: u64 = 67_108_864;
 
-/// Which of the seven is to be done.
+/// Which of the eight is to be done.
 #[derive(Clone, Copy, PartialEq, Eq)]
 enum Work {
     Tokens,
@@ -32,6 +33,7 @@ enum Work {
     Print,
     Check,
     Config,
+    Evidence,
     Graph,
     Formula,
     All,
@@ -61,6 +63,7 @@ fn named(word: &[u8; 8]) -> Work {
         b"print\0\0\0" => Work::Print,
         b"check\0\0\0" => Work::Check,
         b"config\0\0" => Work::Config,
+        b"evidence" => Work::Evidence,
         b"graph\0\0\0" => Work::Graph,
         b"formula\0" => Work::Formula,
         _ => Work::All,
@@ -128,6 +131,23 @@ fn strategies(alloc: Global, text: &[u8]) -> Option<u64> {
     }
 }
 
+/// How many steps of an evidence's logs have a literal.
+fn conflicts(alloc: Global, text: &[u8]) -> Option<u64> {
+    if text.len() as u64 > MOST {
+        return None;
+    }
+    match read_evidence(alloc, text) {
+        Ok(evidence) => Some(evidence.decided.conflicts),
+        Err(_) => None,
+    }
+}
+
+/// What is counted of an evidence.
+fn of_evidence<S: Store>(alloc: Global, store: &mut S) -> Option<u64> {
+    let text = held(alloc, store, "evidence.txt")?;
+    conflicts(alloc, text.as_slice())
+}
+
 /// What is counted of a log and its formula.
 fn of_log<S: Store>(alloc: Global, store: &mut S) -> Option<u64> {
     let formula = held(alloc, store, "formula.cnf")?;
@@ -169,6 +189,7 @@ fn count<S: Store>(alloc: Global, store: &mut S, work: Work, extent: Extent) -> 
     match work {
         Work::Graph | Work::Formula => of_graph(alloc, work, extent),
         Work::Check => of_log(alloc, store),
+        Work::Evidence => of_evidence(alloc, store),
         _ => of_text(alloc, store, work),
     }
 }
@@ -204,6 +225,7 @@ fn measure<S: Store, O: Sink>(alloc: Global, store: &mut S, out: &mut O, work: W
         (Work::Print, "bytes"),
         (Work::Check, "steps"),
         (Work::Config, "strategies"),
+        (Work::Evidence, "conflicts"),
         (Work::Graph, "nodes"),
         (Work::Formula, "clauses"),
     ];

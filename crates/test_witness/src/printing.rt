@@ -12,15 +12,15 @@ use std::test::Fail;
 use test_parts::Sides;
 
 /// A part with strategies, and the texts of which one is to be printed.
-struct Case {
+pub(crate) struct Case {
     part: Table,
     plans: &'static [Plan],
-    texts: &'static [&'static [u8]],
+    pub(crate) texts: &'static [&'static [u8]],
 }
 
 /// The sides of both are unequal where one of two inputs is 1; no strategy is for the part of each kind of node; one node
 /// on both sides, where the antecedents may stand in two orders.
-const CASES: [Case; 3] = [
+pub(crate) const CASES: [Case; 3] = [
     Case {
         part: Table {
             inputs: 2,

@@ -4,12 +4,12 @@ use Rattle.eq_wit.specs.Texts.{regs_line}
 use Rattle.eq_wit.specs.inner.Reading.{in_frames}
 use Rattle.eq_wit.proofs.answering.regs.Goals as goal
 
-pub returns-in_ok-in_frames-in-Ok : goal.returns-in_ok-in_frames-in-Ok
-returns-in_ok-in_frames-in-Ok c = (
+pub returns-in_ok-in_frames-in-Ok-clause-judges : goal.returns-in_ok-in_frames-in-Ok-clause-judges
+returns-in_ok-in_frames-in-Ok-clause-judges c = (
   regs_line c.in-Ok.regs,
   (
     c.in-Ok.regs,
-    c.in-Ok.ensures.fits ∙ c.register_count-count.ensures,
+    c.in-Ok.ensures.fits ∙ c.registers_of-count.ensures.value,
     refl,
     c.in_ok-in_frames-in-Ok.ensures ∙ ap₂ (λ (xs : List (List Bool)) (n : ℕ).
         let run : Run = record { regs = c.in-Ok.regs; inputs = xs } in
