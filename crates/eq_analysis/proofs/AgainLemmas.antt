@@ -1,12 +1,9 @@
 -- Names one after the other, and those before them. Which names come again depends only on which names were seen.
 use Rattle.std.proofs.Common.{◌≡◌, ℕ, ◌+◌, ◌<◌, List, [], ◌∷◌, ◌++◌, Bool, true, false, cond, ◌||◌, Option, Some, length, get_or, take, drop, map, refl, sym, ap, subst, ◌∙◌, arith}
-use Rattle.std.specs.Prelude.{is_some, position}
-use Rattle.std.specs.List.{list_any, position_from}
 use Rattle.std.specs.Str.{bytes_eq}
 use Rattle.std.proofs.lemmas.List.{take_more, drop_more, get_or-map, length-map}
 use Rattle.std.proofs.lemmas.List.Folds.{list_any-append}
-use Rattle.std.proofs.lemmas.Iterator.Adapters.{position_from-zero}
-use Rattle.eq_names.specs.Tables.{number_of, with_name}
+use Rattle.eq_names.specs.Tables.{with_name}
 use Rattle.eq_verilog.specs.Trees.{Name}
 use Rattle.eq_verilog.specs.Declarations.{has}
 use Rattle.eq_verilog.specs.Firsts.{again_after, first_again}

@@ -1,5 +1,5 @@
--- The first that is found among instances, as items.
-use Rattle.std.proofs.Common.{◌≡◌, List, [], ◌∷◌, ◌++◌, Option, Some, None, map, refl, ap, ◌∙◌}
+-- The first that is found: among those that there are, among instances as items, in lists that are joined.
+use Rattle.std.proofs.Common.{◌≡◌, List, [], ◌∷◌, ◌++◌, Option, Some, None, map, refl, sym, ap, ◌∙◌}
 use Rattle.std.specs.Prelude.{filter_map}
 use Rattle.std.specs.List.{cons_option}
 use Rattle.std.specs.Option.{option_or}
@@ -9,10 +9,17 @@ use Rattle.eq_verilog.specs.Trees.{item_tree}
 use Rattle.eq_verilog.specs.Hierarchy.{Instance, instance_in}
 use Rattle.eq_verilog.specs.Firsts.{first_found, first_of}
 
-one_item : {B : Type 0} (f : Instance → Option B) (o : Option Instance) (is : List Instance) →
-    first_found f (cons_option o is) ≡ option_or (if_there None f o) (first_found f is)
-one_item f None is = refl
-one_item f (Some x) is = refl
+one_item : {A B : Type 0} (f : A → Option B) (o : Option A) (ys : List A) →
+    first_found f (cons_option o ys) ≡ option_or (if_there None f o) (first_found f ys)
+one_item f None ys = refl
+one_item f (Some y) ys = refl
+
+-- among those that there are
+pub found_there : {A B C : Type 0} (g : B → Option C) (f : A → Option B) (xs : List A) →
+    first_found (λ x. if_there None g (f x)) xs ≡ first_found g (filter_map f xs)
+found_there g f [] = refl
+found_there g f (x ∷ xs) =
+    ap (λ o. option_or (if_there None g (f x)) o) (found_there g f xs) ∙ sym (one_item g (f x) (filter_map f xs))
 
 -- instances one by one, as items
 pub found_by_items : {B : Type 0} (f : Instance → Option B) (items : List Item) →
@@ -51,3 +58,11 @@ pub after_two : {A : Type 0} (o p : Option A) (os : List (Option A)) →
 after_two (Some x) p os = refl
 after_two None (Some y) os = refl
 after_two None None os = refl
+
+-- the first of three, or else of the others
+pub after_three : {A : Type 0} (o p q : Option A) (os : List (Option A)) →
+    first_of (o ∷ p ∷ q ∷ os) ≡ option_or (first_of (o ∷ p ∷ q ∷ [])) (first_of os)
+after_three (Some x) p q os = refl
+after_three None (Some y) q os = refl
+after_three None None (Some z) os = refl
+after_three None None None os = refl

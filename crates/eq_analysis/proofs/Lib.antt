@@ -15,3 +15,5 @@ pub mod NamedLemmas
 pub mod PlacingLemmas
 pub mod MarkLemmas
 pub mod TargetLemmas
+pub mod OutputLemmas
+pub mod AssignLemmas

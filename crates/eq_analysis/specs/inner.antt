@@ -4,3 +4,6 @@ pub mod Mentioning
 pub mod Targeting
 pub mod Unknowing
 pub mod Visiting
+pub mod Outgoing
+pub mod Assigning
+pub mod Staging

@@ -8,6 +8,7 @@ ghost use Rattle.eq_verilog.specs.ModuleRefusals as spec;
 ghost use Rattle.eq_verilog.specs.TargetRefusals as targets;
 ghost use Rattle.eq_analysis.specs.Tabling.{trees_at, AreNamed};
 
+use crate::assigning::bad_target;
 use crate::connections::bad_connection;
 use crate::duplicates::duplicate_name;
 use crate::mentions::{bad_range, unknown_name};
@@ -118,6 +119,45 @@ pub fn first_bad_range<'a>(
         }
     }
     None
+}
+
+/// The target of a module that is wrong.
+fn bad_target_in<'a>(
+    alloc: Global,
+    names: &NameTable,
+    tables: &[Table<'a>],
+    of: &Module,
+) -> Result<Option<&'a Name>, Memory>
+    requires named { names.now ≡ module_names (trees_at tables.now) }
+    requires there { module_named (trees_at tables.now) of.now.name ≡ Some (module_tree of.now) }
+    ensures { IfOk result (λ found. option_copied found ≡
+        targets.bad_target (trees_at tables.now) (module_tree of.now)) }
+{
+    match table_named(names, tables, &of.name) {
+        Some(table) => bad_target(alloc, names, tables, table),
+        None => Ok(None),
+    }
+}
+
+/// The first module's with a target that is wrong.
+pub fn first_bad_target<'a>(
+    alloc: Global,
+    names: &NameTable,
+    tables: &[Table<'a>],
+    order: &[&Module],
+) -> Result<Option<&'a Name>, Memory>
+    requires named { names.now ≡ module_names (trees_at tables.now) }
+    requires found { AreNamed (trees_at tables.now) (map (λ m. module_tree m.now) order.now) }
+    ensures { IfOk result (λ found. option_copied found ≡
+        first_found (targets.bad_target (trees_at tables.now))
+        (map (λ m. module_tree m.now) order.now)) }
+{
+    for module in order {
+        if let Some(name) = bad_target_in(alloc, names, tables, module)? {
+            return Ok(Some(name));
+        }
+    }
+    Ok(None)
 }
 
 /// The instance or gate of a module that doesn't fit.

@@ -11,10 +11,12 @@
 //! - `undeclared`, `selects`, `ranges`, `mentions`: unknown names, and ranges, selects and sizes (`unknown_name`, `bad_range`).
 //! - `connections`: instances and gates that don't fit (`bad_connection`).
 //! - `marking`, `targets`, `setting`: targets of a wrong net or with a bit twice (`bad_equation_target`, `bad_set`).
-//! - `faults`, `ordering`: these over all modules that are reached, and the first up to BadRange (`early_fault`).
+//! - `outputs`, `assigning`: what outputs are connected to, and all targets of a module (`bad_output`, `bad_target`).
+//! - `faults`, `ordering`: these over all modules that are reached, and the first of all (`module_fault`).
 #![tactic(auto)]
 
 mod again;
+mod assigning;
 mod connections;
 mod declaring;
 mod duplicates;
@@ -24,6 +26,7 @@ mod mentions;
 mod modules;
 mod naming;
 mod ordering;
+mod outputs;
 mod placing;
 mod ranges;
 mod recursion;
@@ -39,11 +42,10 @@ mod unknown;
 mod visiting;
 
 pub use again::has_name;
-pub use faults::first_bad_connection;
 pub use marking::{is_marked, mark};
 pub use modules::{all_modules, duplicate_module};
 pub use naming::{Mentioned, nets_in};
-pub use ordering::{Fault, early_fault};
+pub use ordering::{Fault, module_fault};
 pub use placing::{Places, bits_of, low_of, places_of};
 pub use scope::{net_number, position, range, span, width};
 pub use sizes::{Sizing, inner_size, operand_sizes, own, own_of_all, sizing_of};

@@ -1,14 +1,18 @@
-//! The refusals in their order, as far as they are found without the modules of instances' ports: up to BadRange.
+//! The refusals of modules in their order.
 
-ghost use Rattle.std.specs.Prelude.{◌≡◌, [], None, map, take, option_map, IfOk};
+ghost use Rattle.std.specs.Prelude.{◌≡◌, [], None, map, option_map, IfOk};
 ghost use Rattle.eq_verilog.specs.Trees.{module_tree};
 ghost use Rattle.eq_verilog.specs.Hierarchy.{module_names, reached as reached_of};
 ghost use Rattle.eq_verilog.specs.Firsts.{first_of};
 ghost use Rattle.eq_verilog.specs.Refusals.{module_faults};
-ghost use Rattle.eq_analysis.specs.Ordering.{refusal_of, names_faults, hierarchy_faults, table_faults, reached_faults};
+ghost use Rattle.eq_analysis.specs.Ordering.{refusal_of};
 ghost use Rattle.eq_analysis.specs.Tabling.{trees_at, AreNamed};
+ghost use Rattle.eq_analysis.specs.inner.Staging.{names_faults, hierarchy_faults, range_faults, target_faults, table_faults, reached_faults};
 
-use crate::faults::{first_bad_range, first_duplicate_name, first_unknown_name};
+use crate::faults::{
+    first_bad_connection, first_bad_range, first_bad_target, first_duplicate_name,
+    first_unknown_name,
+};
 use crate::modules::{duplicate_module, no_top};
 use crate::recursion::recursive;
 use crate::tabled::{all_tables, reached_by_name};
@@ -84,7 +88,7 @@ fn hierarchy_fault<'a>(
 }
 
 /// The first name that stands twice or isn't known, or what isn't in range.
-fn module_fault<'a>(
+fn range_fault<'a>(
     alloc: Global,
     names: &NameTable,
     tables: &[Table<'a>],
@@ -93,7 +97,7 @@ fn module_fault<'a>(
     requires named { names.now ≡ module_names (trees_at tables.now) }
     requires found { AreNamed (trees_at tables.now) (map (λ m. module_tree m.now) order.now) }
     ensures { IfOk result (λ found. option_map refusal_of found ≡
-        first_of (table_faults (map (λ m. module_tree m.now) order.now))) }
+        first_of (range_faults (map (λ m. module_tree m.now) order.now))) }
 {
     if let Some(name) = first_duplicate_name(alloc, names, tables, order)? {
         return Ok(Some(Fault {
@@ -116,6 +120,52 @@ fn module_fault<'a>(
     }
 }
 
+/// The first target that is wrong, or instance or gate that doesn't fit.
+fn target_fault<'a>(
+    alloc: Global,
+    names: &NameTable,
+    tables: &[Table<'a>],
+    order: &[&Module],
+) -> Result<Option<Fault<'a>>, Memory>
+    requires named { names.now ≡ module_names (trees_at tables.now) }
+    requires found { AreNamed (trees_at tables.now) (map (λ m. module_tree m.now) order.now) }
+    ensures { IfOk result (λ found. option_map refusal_of found ≡ first_of
+        (target_faults (trees_at tables.now) (map (λ m. module_tree m.now) order.now))) }
+{
+    if let Some(name) = first_bad_target(alloc, names, tables, order)? {
+        return Ok(Some(Fault {
+            kind: ElabKind::BadTarget,
+            name,
+        }));
+    }
+    match first_bad_connection(alloc, names, tables, order)? {
+        Some(name) => Ok(Some(Fault {
+            kind: ElabKind::BadConnection,
+            name,
+        })),
+        None => Ok(None),
+    }
+}
+
+/// What is wrong in modules, by their tables.
+#[tactic(auto, using(crate::proofs::FirstLemmas::after_three))]
+fn table_fault<'a>(
+    alloc: Global,
+    names: &NameTable,
+    tables: &[Table<'a>],
+    order: &[&Module],
+) -> Result<Option<Fault<'a>>, Memory>
+    requires named { names.now ≡ module_names (trees_at tables.now) }
+    requires found { AreNamed (trees_at tables.now) (map (λ m. module_tree m.now) order.now) }
+    ensures { IfOk result (λ found. option_map refusal_of found ≡ first_of
+        (table_faults (trees_at tables.now) (map (λ m. module_tree m.now) order.now))) }
+{
+    match range_fault(alloc, names, tables, order)? {
+        Some(fault) => Ok(Some(fault)),
+        None => target_fault(alloc, names, tables, order),
+    }
+}
+
 /// The same with tables made of all modules.
 fn tabled_fault<'a>(
     alloc: Global,
@@ -126,11 +176,12 @@ fn tabled_fault<'a>(
     requires named { names.now ≡ module_names (map (λ m. module_tree m.now) modules.now) }
     requires found { AreNamed (map (λ m. module_tree m.now) modules.now)
         (map (λ m. module_tree m.now) order.now) }
-    ensures { IfOk result (λ found. option_map refusal_of found ≡
-        first_of (table_faults (map (λ m. module_tree m.now) order.now))) }
+    ensures { IfOk result (λ found. option_map refusal_of found ≡ first_of
+        (table_faults (map (λ m. module_tree m.now) modules.now)
+        (map (λ m. module_tree m.now) order.now))) }
 {
     let tables = all_tables(alloc, modules)?;
-    module_fault(alloc, names, tables.as_slice(), order)
+    table_fault(alloc, names, tables.as_slice(), order)
 }
 
 /// What is wrong with modules that are there, each of its own name.
@@ -154,16 +205,16 @@ fn reached_fault<'a>(
     }
 }
 
-/// The first thing that is wrong with the modules, up to BadRange.
+/// The first thing that is wrong with the modules: the first of the nine refusals of modules.
 #[tactic(auto, using(crate::proofs::FirstLemmas::after_two))]
-pub fn early_fault<'a>(
+pub fn module_fault<'a>(
     alloc: Global,
     modules: &[&'a Module],
     top: &'a Name,
 ) -> Result<Option<Fault<'a>>, Memory>
     ensures { IfOk result (λ found. option_map refusal_of found ≡ first_of
-        (take 7 (module_faults (map (λ m. module_tree m.now) modules.now) top.now
-        (reached_of (map (λ m. module_tree m.now) modules.now) top.now)))) }
+        (module_faults (map (λ m. module_tree m.now) modules.now) top.now
+        (reached_of (map (λ m. module_tree m.now) modules.now) top.now))) }
 {
     let mut names = NameTable::new(alloc)?;
     match names_fault(alloc, &mut names, modules, top)? {

@@ -36,7 +36,7 @@ pub enum Right {
     Register,
 }
 
-fn comes_in(dir: Dir) -> bool
+pub fn comes_in(dir: Dir) -> bool
     ensures { result ≡ declarations.comes_in (side_of dir) }
 {
     match dir {
@@ -102,7 +102,7 @@ fn in_leaf<'a>(
 }
 
 /// A net as a leaf.
-fn net_leaf<'a>(
+pub fn net_leaf<'a>(
     marks: &mut HashMap<u64, bool>,
     table: &Table,
     places: &Places,
@@ -126,7 +126,7 @@ fn net_leaf<'a>(
 }
 
 /// A bit of a net as a leaf.
-fn bit_leaf<'a>(
+pub fn bit_leaf<'a>(
     marks: &mut HashMap<u64, bool>,
     table: &Table,
     places: &Places,
@@ -144,7 +144,7 @@ fn bit_leaf<'a>(
 }
 
 /// A part of a net as a leaf.
-fn part_leaf<'a>(
+pub fn part_leaf<'a>(
     marks: &mut HashMap<u64, bool>,
     table: &Table,
     places: &Places,
