@@ -20,7 +20,8 @@ use Rattle.eq_analysis.specs.Finding.{scope_of}
 use Rattle.eq_analysis.specs.Measuring.{IsFit, IsSmall}
 use Rattle.eq_flatten.specs.Items.{IsSource, IsTarget}
 use Rattle.eq_flatten.specs.Meant.{AreSlim}
-use Rattle.eq_flatten.specs.inner.Faultless.{AreNetsOf, HasNames, HasSizes}
+use Rattle.eq_flatten.specs.Spelled.{HasSizes}
+use Rattle.eq_flatten.specs.inner.Faultless.{AreNetsOf, HasNames}
 use Rattle.eq_flatten.proofs.ApartLemmas.{apart_alone}
 use Rattle.eq_flatten.proofs.Selecting.{select_inside}
 use Rattle.eq_flatten.proofs.Listing.{first_false, first_true}
@@ -34,7 +35,7 @@ in_front xs ys n h = list_any-append (bytes_eq n) xs ys ∙ or_left (has xs n) (
 pub in_back : (xs ys : List Name) (n : Name) → has ys n ≡ true → has (xs ++ ys) n ≡ true
 in_back xs ys n h = list_any-append (bytes_eq n) xs ys ∙ or_right (has xs n) (has ys n) h
 
-first_name : (n : Name) (ns : List Name) → has (n ∷ ns) n ≡ true
+pub first_name : (n : Name) (ns : List Name) → has (n ∷ ns) n ≡ true
 first_name n ns = or_left (bytes_eq n n) (has ns n) ((bytes_eq-Decides n n).1 refl)
 
 none_true : true ≡ false → ⊥

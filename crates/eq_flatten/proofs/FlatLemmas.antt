@@ -39,7 +39,7 @@ nets_within prefix m (n ∷ ns) =
 some_list : (a b : List Net) → Some a ≡ Some b → a ≡ b
 some_list a b e = ap (λ (o : Option (List Net)). if_there [] (λ (x : List Net). x) o) e
 
-get_mapped : {A B : Type 0} (f : A → B) (xs : List A) (k : ℕ) (x : A) → slice_get xs k ≡ Some x →
+pub get_mapped : {A B : Type 0} (f : A → B) (xs : List A) (k : ℕ) (x : A) → slice_get xs k ≡ Some x →
     slice_get (map f xs) k ≡ Some (f x)
 get_mapped f [] k x h = absurd (cc)
 get_mapped {A = A} f (y ∷ ys) zero x h = ap (λ (o : Option A). option_map f o) h

@@ -14,6 +14,7 @@ pub mod PathWalk
 pub mod Driven
 pub mod Numbered
 pub mod Equated
+pub mod BeginningLemmas
 pub mod Assigned
 pub mod Bridged
 pub mod Gated
@@ -30,3 +31,13 @@ pub mod PartsSmall
 pub mod LinksReady
 pub mod Alike
 pub mod Likened
+pub mod ClashLemmas
+pub mod Reaching
+pub mod Ending
+pub mod SameNamed
+pub mod Scoped
+pub mod Tabled
+pub mod Connected
+pub mod DesignReady
+pub mod DesignDriven
+pub mod StartLemmas

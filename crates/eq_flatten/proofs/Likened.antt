@@ -1,5 +1,5 @@
 -- What slots say of equations they say of the same equations in scopes that say the same of their names.
-use Rattle.std.proofs.Common.{◌≡◌, ℕ, zero, suc, ◌+◌, ◌<◌, max, List, [], ◌∷◌, slice_index_or, refl, sym, ap, ap₂, subst, ◌∙◌, arith, inl, inr}
+use Rattle.std.proofs.Common.{◌≡◌, ℕ, ◌+◌, ◌<◌, max, List, [], ◌∷◌, refl, sym, ap, ap₂, subst, ◌∙◌, arith, inl, inr}
 use Rattle.std.proofs.Math.Path.{fun_ext}
 use Rattle.std.specs.Prelude.{is_some, Contains, Option}
 use Rattle.std.proofs.lemmas.List.Elements.{Contains-append_cases, Contains-append_right}
@@ -18,6 +18,7 @@ use Rattle.eq_flatten.specs.Rendering.{Renders, SameNames}
 use Rattle.eq_flatten.specs.Summing.{AreAgreed, IsAgreed}
 use Rattle.eq_flatten.proofs.Agreeing.{own_same, reads_same, value_same, wire_same}
 use Rattle.eq_flatten.proofs.Equated.{count_append, count_one}
+use Rattle.eq_flatten.proofs.Listing.{only}
 
 -- a target has each bit at the same place
 place_same : (s r : Scope) (t : ExprTree) (b : ℕ) → SameNames s r t → place_in s t b ≡ place_in r t b
@@ -73,10 +74,6 @@ count_agreed (e ∷ es) (f ∷ fs) b h =
     omega (arith, one, rest, x, y)
 count_agreed [] (f ∷ fs) b h = absurd h
 count_agreed (e ∷ es) [] b h = absurd h
-
-only : (x y : Equation) (k : ℕ) → k < 1 → slice_index_or (x ∷ []) k y ≡ y → x ≡ y
-only x y zero lt is = is
-only x y (suc k) lt is = absurd (omega (arith, lt))
 
 -- the equation of the others that an equation agrees with
 found_agreed : (nets : List NetInfo) (words : List Tree) (es fs : List Equation) (b k j : ℕ) → AreAgreed es fs →

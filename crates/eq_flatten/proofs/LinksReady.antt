@@ -1,11 +1,10 @@
 -- Links one after the other, each with its own path and the one that it stands in.
-use Rattle.std.proofs.Common.{◌≡◌, ℕ, zero, suc, ◌+◌, ◌<◌, ◌≤◌, List, [], ◌∷◌, ◌++◌, length, take, slice_get, slice_index_or, Option, Some, refl, arith, sym, ap, subst, ◌∙◌}
+use Rattle.std.proofs.Common.{◌≡◌, ℕ, zero, suc, ◌+◌, ◌<◌, ◌≤◌, List, [], ◌∷◌, ◌++◌, length, take, slice_get, slice_index_or, Some, arith, sym, ap, subst, ◌∙◌}
 use Rattle.std.specs.Prelude.{zip}
 use Rattle.std.proofs.lemmas.List.{append_assoc, append-nil}
 use Rattle.eq_net.specs.declared.types.NetInfo.{NetInfo}
 use Rattle.eq_net.specs.Tree.{Tree}
 use Rattle.eq_verilog.specs.Trees.{Name, ModuleTree}
-use Rattle.eq_verilog.specs.Equations.{Equation}
 use Rattle.eq_flatten.specs.declared.driving.Slot.{Slot}
 use Rattle.eq_flatten.specs.declared.paths.Link.{Link}
 use Rattle.eq_flatten.specs.declared.paths.Path.{Path}

@@ -19,6 +19,11 @@ first_false a b le = elim (cases_Bool (nat_lt a b)) [
   | inr f ↦ f
 ]
 
+-- the element of a list of one
+pub only : {A : Type 0} (x y : A) (k : ℕ) → k < 1 → slice_index_or (x ∷ []) k y ≡ y → x ≡ y
+only x y zero lt is = is
+only x y (suc k) lt is = absurd (omega (arith, lt))
+
 pub numbered_length : {A : Type 0} (f : ℕ → A) (n : ℕ) → length (numbered f n) ≡ n
 numbered_length f zero = refl
 numbered_length f (suc n) =
@@ -26,7 +31,7 @@ numbered_length f (suc n) =
     let before = numbered_length f n in
     omega arith
 
-numbered_or : {A : Type 0} (f : ℕ → A) (d : A) (n j : ℕ) → j < n → slice_index_or (numbered f n) j d ≡ f j
+pub numbered_or : {A : Type 0} (f : ℕ → A) (d : A) (n j : ℕ) → j < n → slice_index_or (numbered f n) j d ≡ f j
 numbered_or f d zero j lt = absurd (omega arith)
 numbered_or f d (suc n) j lt = elim (cases_lt j n) [
   | inl less ↦ get_or-append (numbered f n) (f n ∷ []) d j (let e = numbered_length f n in omega arith)

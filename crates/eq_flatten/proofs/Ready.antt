@@ -23,7 +23,8 @@ use Rattle.eq_verilog.specs.TargetRefusals.{are_terminals, bad_connection, bad_c
 use Rattle.eq_analysis.specs.Finding.{scope_of}
 use Rattle.eq_analysis.specs.Measuring.{AllSmall, IsFit}
 use Rattle.eq_flatten.specs.Equating.{AreTargets}
-use Rattle.eq_flatten.specs.inner.Faultless.{AreItemsSpelled, AreNetsOf, HasNames, IsItemSpelled, IsSpelled}
+use Rattle.eq_flatten.specs.Spelled.{AreItemsSpelled, IsItemSpelled, IsSpelled}
+use Rattle.eq_flatten.specs.inner.Faultless.{AreNetsOf, HasNames}
 use Rattle.eq_flatten.specs.Gating.{AreBits}
 use Rattle.eq_flatten.specs.Items.{AreReady, AreTerminals, IsReady, IsTarget}
 use Rattle.eq_flatten.proofs.Faultless.{in_back, in_front, fit_in, sizes, small_in, source_ready, target_ready}
@@ -53,7 +54,7 @@ module _ (n : Name) where
   ]
 
   -- each name of a list is among those that come once
-  once : (ns seen : List Name) → has ns n ≡ true → has (fold with_name seen ns) n ≡ true
+  pub once : (ns seen : List Name) → has ns n ≡ true → has (fold with_name seen ns) n ≡ true
   once [] seen h = absurd (cc)
   once (x ∷ xs) seen h = elim (cases_Bool (bytes_eq n x)) [
     | inl here ↦ still_all xs (with_name seen x) (at_once seen x ((bytes_eq-Decides n x).0 here))
@@ -126,7 +127,7 @@ module _ (all : List ModuleTree) (m : ModuleTree) (nets : List NetInfo) (from : 
         )
 
     -- an output that isn't refused, as a target
-    output_ready : (e : ExprTree) → HasNames m e → bad_range_in m false e ≡ None → bad_output m e ≡ None →
+    pub output_ready : (e : ExprTree) → HasNames m e → bad_range_in m false e ≡ None → bad_output m e ≡ None →
         IsTarget nets (nets_in m) from e
     output_ready e named range fine =
         let parts = or_none (unless (is_target e) m.name) (bad_equation_target m e) fine in

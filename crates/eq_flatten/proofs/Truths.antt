@@ -28,6 +28,10 @@ pub or_right : (a b : Bool) → b ≡ true → (a || b) ≡ true
 or_right true b e = refl
 or_right false b e = e
 
+pub or_no : (b : Bool) → (b || false) ≡ true → b ≡ true
+or_no true e = refl
+or_no false e = e
+
 pub or_false : (a b : Bool) → (a || b) ≡ false → (a ≡ false) × (b ≡ false)
 or_false true b e = absurd (cc)
 or_false false b e = (refl, e)

@@ -5,6 +5,7 @@ pub mod Paths
 pub mod Flat
 pub mod Driving
 pub mod Equating
+pub mod Beginning
 pub mod Gating
 pub mod Items
 pub mod Owning
@@ -12,4 +13,5 @@ pub mod Linking
 pub mod Joining
 pub mod Flattening
 pub mod Summing
+pub mod Spelled
 pub mod inner

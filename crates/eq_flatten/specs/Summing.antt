@@ -1,11 +1,16 @@
 -- The equations of a design as those that items drive by themselves, and those of the links' connections.
-use Rattle.std.specs.Prelude.{◌≡◌, ℕ, zero, suc, List, [], ◌∷◌, Contains, None, Some, flat_map}
+use Rattle.std.specs.Prelude.{◌≡◌, ◌+◌, ◌++◌, ℕ, zero, suc, List, [], ◌∷◌, Contains, None, Some, flat_map, sum_by, zip}
 use Rattle.eq_model.specs.Nets.{Net}
-use Rattle.eq_verilog.specs.Trees.{ModuleTree}
+use Rattle.eq_net.specs.declared.types.NetInfo.{NetInfo}
+use Rattle.eq_verilog.specs.Trees.{Name, ModuleTree}
 use Rattle.eq_verilog.specs.Hierarchy.{Instance, instances, module_named, Path, inner_prefix}
 use Rattle.eq_verilog.specs.Nets.{scope_at}
 use Rattle.eq_verilog.specs.Equations.{Equation, connection_equation, connections_of}
+use Rattle.eq_flatten.specs.declared.paths.Link.{Link as LinkValue}
+use Rattle.eq_flatten.specs.declared.paths.Path.{Path as PathValue}
+use Rattle.eq_flatten.specs.Flattening.{path_cost, path_equations}
 use Rattle.eq_flatten.specs.Items.{own_equations}
+use Rattle.eq_flatten.specs.Joining.{all_joined, all_joined_cost}
 use Rattle.eq_flatten.specs.Paths.{Link}
 use Rattle.eq_flatten.specs.Rendering.{SameNames}
 
@@ -35,3 +40,13 @@ abbrev pub AreAgreed : List Equation → List Equation → Type 0
 AreAgreed [] [] = Unit {0}
 AreAgreed (e ∷ es) (f ∷ fs) = IsAgreed e f × AreAgreed es fs
 AreAgreed _ _ = ⊥
+
+-- the equations of paths and links as the code has them: by the names of the modules, and the number of each path's first net
+abbrev pub by_tables : List NetInfo → List (List Name) → List PathValue → List LinkValue → List ℕ → List Equation
+by_tables nets owned paths links firsts =
+    flat_map (path_equations nets owned) (zip paths firsts) ++ all_joined nets owned (zip paths firsts) 1 links
+
+-- and what their words cost at most
+abbrev pub cost_by_tables : List NetInfo → List (List Name) → List PathValue → List LinkValue → List ℕ → ℕ
+cost_by_tables nets owned paths links firsts =
+    sum_by (path_cost nets owned) (zip paths firsts) + all_joined_cost nets owned (zip paths firsts) 1 links

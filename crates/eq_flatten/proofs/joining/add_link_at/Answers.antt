@@ -1,4 +1,4 @@
-use Rattle.std.proofs.Common.{◌≡◌, ℕ, ◌+◌, List, [], Option, Some, map, slice_index_or, slice_get, refl, arith, sym, subst}
+use Rattle.std.proofs.Common.{ℕ, ◌+◌, List, [], Option, map, slice_index_or, slice_get, refl, arith, sym, subst}
 use Rattle.std.specs.Prelude.{zip}
 use Rattle.eq_net.specs.Meaning.{if_there}
 use Rattle.eq_net.specs.Tree.{trees_of}

@@ -1,4 +1,4 @@
-use Rattle.std.proofs.Common.{◌+◌, map, arith}
+use Rattle.std.proofs.Common.{◌+◌, map}
 use Rattle.std.specs.Prelude.{zip}
 use Rattle.eq_net.specs.Tree.{trees_of}
 use Rattle.eq_analysis.specs.Tabling.{trees_at}

@@ -1,0 +1,25 @@
+use Rattle.std.proofs.Common.{List, map, take, sym, subst}
+use Rattle.eq_verilog.specs.Trees.{ItemTree, item_tree}
+use Rattle.eq_analysis.specs.Finding.{scope_of}
+use Rattle.eq_flatten.specs.Beginning.{initials_in, AddsInitials}
+use Rattle.eq_flatten.proofs.BeginningLemmas.{initial_ready_at, initials_next}
+use Rattle.eq_flatten.proofs.Itemized.{taken_item}
+use Rattle.eq_flatten.proofs.initials.add_module.Goals as goal
+
+pub add_item-requires-clause-ready : goal.add_item-requires-clause-ready
+add_item-requires-clause-ready c =
+    initial_ready_at c.args.nets.now c.args.names.now c.args.from c.args.items.now c.loop-item.item-index
+    c.item-item.result c.loop-item-test.true c.item-item.is c.requires.ready
+
+pub loop-item-preserved : goal.loop-item-preserved
+loop-item-preserved c =
+    let s = scope_of c.args.nets.now c.args.names.now c.args.from in
+    let is = c.args.items.now in
+    let k = c.loop-item.item-index in
+    let i = c.item-item.result in
+    subst (λ (js : List ItemTree). AddsInitials c.args.constants.now.items c.add_item.new.constants.items
+    c.args.slots.now c.add_item.new.slots (initials_in s js))
+    (sym (taken_item is k i c.loop-item-test.true c.item-item.is))
+    (initials_next s (map item_tree (take k is)) (item_tree i) c.args.constants.now.items c.loop-item.constants.items
+    c.add_item.new.constants.items c.args.slots.now c.loop-item.slots c.add_item.new.slots
+    c.loop-item.invariant c.in_ok-add_item.ensures)
