@@ -1,0 +1,12 @@
+pub mod Placed
+pub mod Grown
+pub mod Stood
+pub mod Written
+pub mod Gathered
+pub mod Chosen
+pub mod Branched
+pub mod Ran
+pub mod Branching
+pub mod Added
+pub mod Begun
+pub mod Counted

@@ -1,0 +1,5 @@
+pub mod Standing
+pub mod Running
+pub mod Collecting
+pub mod Following
+pub mod inner

@@ -1,0 +1,4 @@
+pub mod Writing
+pub mod Choosing
+pub mod Stepping
+pub mod Adding
