@@ -9,5 +9,6 @@ pub mod Pigeons
 pub mod Ends
 pub mod ClockSteps
 pub mod TakingLemmas
+pub mod MissingLemmas
 pub mod HeaderLemmas
 pub mod SamePorts

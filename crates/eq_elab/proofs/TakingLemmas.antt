@@ -27,13 +27,13 @@ use Rattle.eq_verilog.specs.Clocks.{end_of, is_bit, leads_to, takes_as_data}
 use Rattle.eq_verilog.specs.Declarations.{goes_out}
 use Rattle.eq_verilog.specs.Firsts.{first_below, one_below}
 use Rattle.eq_verilog.specs.Nets as elab
-use Rattle.eq_elab.specs.Ports.{is_output_of}
+use Rattle.eq_elab.specs.Ports.{is_output_of, takes}
 use Rattle.eq_elab.specs.declared.marks.Way.TheVariants.{Copies, Reads}
 use Rattle.eq_elab.specs.inner.Carrying.{HasRows, mark_of, rows_mark}
 use Rattle.eq_elab.specs.inner.Clocking.{IsClass, leads}
 use Rattle.eq_elab.specs.inner.Taking.{AreCopies, AreOwn, IsClassOf, driven_mark, is_output_net, output_flags, read_mark, takes_at}
 use Rattle.eq_elab.proofs.Ends.{cases_option}
-use Rattle.eq_elab.proofs.MarkMeaning.{all_copies, all_read, some_same}
+use Rattle.eq_elab.proofs.MarkMeaning.{all_copies, all_read, some_mark}
 use Rattle.eq_elab.proofs.MarkTables.{if_some}
 
 length_map : {A B : Type 0} (f : A → B) (xs : List A) → length (map f xs) ≡ length xs
@@ -189,7 +189,7 @@ flags_length (n ∷ ns) =
     in
     let r = length-replicate (width_of n) (is_output_net n.dir) in omega arith)
 
-flag_at : (nets : List NetInfo) (b : ℕ) → b < bits_of nets → slice_index_or (output_flags nets) b false ≡ goes_out
+pub flag_at : (nets : List NetInfo) (b : ℕ) → b < bits_of nets → slice_index_or (output_flags nets) b false ≡ goes_out
     (at_bit inner (λ m p. m.dir) (nets_of nets) b)
 flag_at [] b lt = absurd (omega arith)
 flag_at (n ∷ ns) b lt =
@@ -215,7 +215,13 @@ some_or None true n = refl
 some_or None false n = refl
 some_or (Some m) t n = refl
 
-one_is_some : (n : ℕ) (test : ℕ → Bool) → some_one n test ≡ one_below n test
+first_same : (n : ℕ) (f g : ℕ → Bool) → ((b : ℕ) → b < n → f b ≡ g b) → first_below n f ≡ first_below n g
+first_same zero f g same = refl
+first_same (suc n) f g same =
+    ap (λ o. option_or o (cond {A = Option ℕ} (f n) (Some n) None)) (first_same n f g (λ b lt. same b (omega arith)))
+    ∙ ap (λ t. option_or (first_below n g) (cond {A = Option ℕ} t (Some n) None)) (same n (omega arith))
+
+pub one_is_some : (n : ℕ) (test : ℕ → Bool) → some_one n test ≡ one_below n test
 one_is_some zero test = refl
 one_is_some (suc n) test = ap (λ b. b || test n) (one_is_some n test) ∙ sym (some_or (first_below n test) (test n) n)
 
@@ -240,7 +246,7 @@ module _ (n : Parts) (c : ℕ) (class : List (Option ℕ)) (is : IsClassOf n c c
       is_some (rows_mark rows w j) ≡ list_any (λ b. is_some (mark_of class b)) (table [] (reads_of (number_of n.nets))
       n.words (length n.words) w j)
   row_reads w j lw lj = ap (λ (o : Option ℕ). is_some o) (has.each w j lw lj)
-      ∙ all_read (λ b. is_some (mark_of class b)) (λ m. mark_of class (number_of n.nets m)) (number_of n.nets) (λ m.
+      ∙ all_read (λ (o : Option ℕ). is_some o) refl some_mark (λ b. is_some (mark_of class b)) (λ m. mark_of class (number_of n.nets m)) (number_of n.nets) (λ m.
       refl) n.words (length n.words) w j
 
   driver_reads : (d : Driver) → NamesWord n.words d → IsDriver (bits_of n.nets) (source_of n.nets n.words d) →
@@ -271,14 +277,13 @@ module _ (n : Parts) (c : ℕ) (class : List (Option ℕ)) (is : IsClassOf n c c
       ∙ ap (λ x. cond (leads_to (design_of n).copy_of (bits_of n.nets) c b) out x) (driver_reads (driver_at n b) (names
       b Undriven lt) (system b lb))
 
-  pub taken_is : (outputs : List Bool) → outputs ≡ output_flags n.nets → All (NamesWord n.words) n.drivers →
-      some_one (length n.drivers) (takes_at n.drivers outputs class (rows_mark rows))
-      ≡ one_below (bits_of n.nets) (takes_as_data (system_of n) (design_of n).copy_of (is_output_of (design_of n)) c)
-  taken_is outputs flags names =
-      let test = takes_as_data (system_of n) (design_of n).copy_of (is_output_of (design_of n)) c in
-      some_same (length n.drivers) (takes_at n.drivers outputs class (rows_mark rows)) test (bit_takes outputs flags
-      names)
-      ∙ one_is_some (length n.drivers) test ∙ ap (λ k. one_below k test) size
+  pub first_taken : (outputs : List Bool) → outputs ≡ output_flags n.nets → All (NamesWord n.words) n.drivers →
+      first_below (length n.drivers) (takes_at n.drivers outputs class (rows_mark rows))
+      ≡ first_below (bits_of n.nets) (takes (design_of n) c)
+  first_taken outputs flags names =
+      first_same (length n.drivers) (takes_at n.drivers outputs class (rows_mark rows)) (takes (design_of n) c)
+      (bit_takes outputs flags names)
+      ∙ ap (λ k. first_below k (takes (design_of n) c)) size
 
 -- ---- names
 

@@ -1,4 +1,5 @@
 pub mod Ports
+pub mod Missing
 pub mod Answers
 pub mod samples
 pub mod inner

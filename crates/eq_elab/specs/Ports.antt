@@ -32,9 +32,13 @@ first_port test (n ∷ ns) = if test n then Some zero else option_map suc (first
 abbrev pub is_output_of : Design → ℕ → Bool
 is_output_of d b = goes_out (dir d b)
 
+-- a bit takes bit c as data, as if that were a clock
+abbrev pub takes : Design → ℕ → ℕ → Bool
+takes d c = takes_as_data d.system d.copy_of (is_output_of d) c
+
 -- some bit takes this port, which is no clock of the design, as data
 abbrev pub takes_port : Design → NetName → Bool
-takes_port d n = one_below d.bits (takes_as_data d.system d.copy_of (is_output_of d) (offset d.nets n))
+takes_port d n = one_below d.bits (takes d (offset d.nets n))
 
 -- The port of one design's clock, given both clocks: the names differ; or one design alone has a clock, and the other
 -- takes that port as data

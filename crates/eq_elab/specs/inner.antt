@@ -2,5 +2,6 @@ pub mod Carrying
 pub mod Marks
 pub mod Clocking
 pub mod Taking
+pub mod Missing
 pub mod Headers
 pub mod Comparing

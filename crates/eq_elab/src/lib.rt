@@ -4,7 +4,8 @@
 //!
 //! - `ports`: whether two designs can be compared (`same_ports`: exactly `port_fault`). `headers`: their ports by name.
 //! - `marks`, `carrying`: marks carried from the bits of nets to those of words (`HasRows`). `clocking`: the bits from which
-//!   plain copies lead to a clock (`IsClass`). `taking`: whether a design takes a port as data (`takes_port`).
+//!   plain copies lead to a clock (`IsClass`). `taking`: the first bit that takes a clock as data (`first_taking`).
+//! - `missing`: the first bit without driver that is needed (`first_missed`).
 //! - `examples`: designs on which the definitions of ports are tried. `laws`: what holds of ports that fit.
 #![tactic(auto)]
 
@@ -14,8 +15,11 @@ pub mod examples;
 mod headers;
 pub mod laws;
 mod marks;
+mod missing;
 mod ports;
 mod taking;
 
 pub use eq_verilog::{BitNames, ElabErr, ElabKind};
+pub use missing::first_missed;
 pub use ports::{PortErr, same_ports};
+pub use taking::first_taking;

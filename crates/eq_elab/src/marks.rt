@@ -15,7 +15,7 @@ use eq_net::WordOp;
 pub enum Way {
     /// That of the bit which a bit is by wiring alone. An operator's result has no mark.
     Copies,
-    /// One of those of the bits that a bit reads.
+    /// The least of those of the bits that a bit reads.
     Reads,
 }
 
@@ -33,13 +33,24 @@ fn put_mark(stack: &mut Vec<Option<u32>>, at: usize, mark: Option<u32>)
     stack[at] = mark;
 }
 
+/// The smaller of two marks, where there are any.
+pub fn least(x: Option<u32>, y: Option<u32>) -> Option<u32>
+    ensures { result ≡ spec.least x y }
+{
+    match (x, y) {
+        (None, y) => y,
+        (x, None) => x,
+        (Some(x), Some(y)) => Some(x.min(y)),
+    }
+}
+
 /// What an operator makes of two marks.
 fn mixed(way: Way, x: Option<u32>, y: Option<u32>) -> Option<u32>
     ensures { result ≡ spec.mixed way x y }
 {
     match way {
         Way::Copies => None,
-        Way::Reads => { if x.is_some() { x } else { y } }
+        Way::Reads => least(x, y),
     }
 }
 

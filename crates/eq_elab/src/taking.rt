@@ -1,13 +1,13 @@
 //! Whether a design takes a port as data that is another design's clock.
 
-ghost use Rattle.std.specs.Prelude.{◌≡◌, ◌+◌, ◌<◌, ◌^◌, ◌++◌, IfOk, OnOk, length, replicate};
-ghost use Rattle.eq_net.specs.Net.{bits_of, name_at, offset};
-ghost use Rattle.eq_net.specs.Numbers.{some_one};
-ghost use Rattle.eq_net.specs.Whole.{parts_of};
-ghost use Rattle.eq_verilog.specs.Clocks.{takes_as_data};
-ghost use Rattle.eq_verilog.specs.Firsts.{one_below};
+ghost use Rattle.std.specs.Prelude.{◌≡◌, ◌<◌, ◌^◌, ◌++◌, All, IfOk, OnOk, length, replicate, slice_index_or};
+ghost use Rattle.eq_net.specs.Net.{AreWords, NamesWord, bits_of, design_of, name_at, offset};
+ghost use Rattle.eq_net.specs.Tree.{trees_of};
+ghost use Rattle.eq_verilog.specs.Firsts.{first_below};
 ghost use Rattle.eq_elab.specs.Answers.{meaning};
+ghost use Rattle.eq_elab.specs.Missing.{undressed};
 ghost use Rattle.eq_elab.specs.Ports as ports;
+ghost use Rattle.eq_elab.specs.Ports.{takes};
 ghost use Rattle.eq_elab.specs.inner.Carrying.{BeginAt, rows_mark};
 ghost use Rattle.eq_elab.specs.inner.Taking as spec;
 ghost use Rattle.eq_elab.specs.inner.Taking.{AreCopies, AreOwn, IsClassOf};
@@ -17,7 +17,7 @@ use crate::clocking::clock_class;
 use crate::marks::Way;
 use eq_base::Memory;
 use eq_net::laws::{bits_stand_by_nets, words_make_a_system};
-use eq_net::{Dir, Driver, Net, NetInfo, WordBit};
+use eq_net::{Dir, Driver, Net, NetInfo, Word, WordBit};
 use std::alloc::Global;
 
 /// Each bit's own number as its mark.
@@ -44,7 +44,7 @@ fn driven_mark(driver: Driver, rows: &[MarkRow]) -> Option<u32>
 }
 
 /// The mark of the bit of a word that drives a bit, within the cycle or at its end.
-fn read_mark(driver: Driver, rows: &[MarkRow]) -> Option<u32>
+pub fn read_mark(driver: Driver, rows: &[MarkRow]) -> Option<u32>
     ensures { result ≡ spec.read_mark (rows_mark rows.now) driver }
 {
     match driver {
@@ -56,35 +56,51 @@ fn read_mark(driver: Driver, rows: &[MarkRow]) -> Option<u32>
 }
 
 /// The bit of which each bit is a plain copy.
-fn bit_copies(alloc: Global, net: &Net, starts: &[u32]) -> Result<Vec<Option<u32>>, Memory>
-    requires starts { BeginAt net.now.nets starts.now }
-    ensures { IfOk result (λ copies. AreCopies (parts_of net.now) copies.items) }
+fn bit_copies(
+    alloc: Global,
+    nets: &[NetInfo],
+    words: &[Word],
+    drivers: &[Driver],
+    starts: &[u32],
+) -> Result<Vec<Option<u32>>, Memory>
+    requires words { AreWords nets.now (trees_of words.now) }
+    requires drivers { All (NamesWord (trees_of words.now)) drivers.now }
+    requires size { length drivers.now ≡ bits_of nets.now }
+    requires few { bits_of nets.now < 2 ^ 32 }
+    requires starts { BeginAt nets.now starts.now }
+    ensures { IfOk result (λ copies.
+        AreCopies (undressed nets.now (trees_of words.now) drivers.now) copies.items) }
 {
     bits_stand_by_nets();
-    let own = own_marks(alloc, net.bits())?;
-    let nets = net.nets.as_slice();
-    let rows = carry(alloc, Way::Copies, net.words.as_slice(), nets, starts, &own)?;
-    let mut copies = Vec::with_capacity(alloc, net.drivers.len())?;
-    for driver in net.drivers.as_slice() {
+    let count = drivers.len() as u32;
+    let own = own_marks(alloc, count)?;
+    let rows = carry(alloc, Way::Copies, words, nets, starts, &own)?;
+    let mut copies = Vec::with_capacity(alloc, drivers.len())?;
+    for driver in drivers {
         copies.push(driven_mark(*driver, &rows))?;
     }
     Ok(copies)
 }
 
-/// Marks the bits from which plain copies lead to the first bit of a net.
+/// Marks the bits from which plain copies lead to a bit.
 fn class_of(
     alloc: Global,
-    net: &Net,
+    nets: &[NetInfo],
+    words: &[Word],
+    drivers: &[Driver],
     starts: &[u32],
     clock: u32,
 ) -> Result<Vec<Option<u32>>, Memory>
-    requires starts { BeginAt net.now.nets starts.now }
-    requires there { clock < length net.now.nets }
-    ensures { IfOk result (λ class. IsClassOf (parts_of net.now) (offset net.now.nets clock)
-        class.items) }
+    requires words { AreWords nets.now (trees_of words.now) }
+    requires drivers { All (NamesWord (trees_of words.now)) drivers.now }
+    requires size { length drivers.now ≡ bits_of nets.now }
+    requires few { bits_of nets.now < 2 ^ 32 }
+    requires starts { BeginAt nets.now starts.now }
+    ensures { IfOk result (λ class.
+        IsClassOf (undressed nets.now (trees_of words.now) drivers.now) clock class.items) }
 {
-    let copies = bit_copies(alloc, net, starts)?;
-    clock_class(alloc, &copies, starts[clock as usize])
+    let copies = bit_copies(alloc, nets, words, drivers, starts)?;
+    clock_class(alloc, &copies, clock)
 }
 
 fn is_output(dir: Dir) -> bool
@@ -108,7 +124,7 @@ fn push_flags(flag: bool, count: usize, flags: &mut Vec<bool>) -> Result<(), Mem
 }
 
 /// Of each bit whether it is one of an output.
-fn output_flags(alloc: Global, nets: &[NetInfo]) -> Result<Vec<bool>, Memory>
+pub fn output_flags(alloc: Global, nets: &[NetInfo]) -> Result<Vec<bool>, Memory>
     ensures { IfOk result (λ flags. flags.items ≡ spec.output_flags nets.now) }
 {
     let mut flags = Vec::new(alloc);
@@ -138,40 +154,79 @@ fn takes_at(
     }
 }
 
-/// Whether some bit takes the clock as data.
-fn some_takes(drivers: &[Driver], outputs: &[bool], class: &[Option<u32>], rows: &[MarkRow]) -> bool
+/// The first bit that takes the clock as data.
+fn first_of_takers(
+    drivers: &[Driver],
+    outputs: &[bool],
+    class: &[Option<u32>],
+    rows: &[MarkRow],
+) -> Option<u32>
+    requires few { length drivers.now < 2 ^ 32 }
     requires outputs { length outputs.now ≡ length drivers.now }
     requires marks { length class.now ≡ length drivers.now }
-    ensures { result ≡ some_one (length drivers.now)
+    ensures { result ≡ first_below (length drivers.now)
         (spec.takes_at drivers.now outputs.now class.now (rows_mark rows.now)) }
 {
-    let mut some = false;
+    let mut first = None;
     for bit in 0..drivers.len() {
-        some = some | takes_at(drivers, outputs, class, rows, bit);
+        let takes = takes_at(drivers, outputs, class, rows, bit);
+        first = first.or(if takes { Some(bit as u32) } else { None });
     }
-    some
+    first
 }
 
-/// Whether some bit takes the clock as data of which `class` is the class.
-fn is_taken(
+/// The first bit that takes as data the clock of which `class` is the class.
+fn first_of_class(
     alloc: Global,
-    net: &Net,
+    nets: &[NetInfo],
+    words: &[Word],
+    drivers: &[Driver],
     starts: &[u32],
     class: &[Option<u32>],
     clock: u32,
-) -> Result<bool, Memory>
-    requires starts { BeginAt net.now.nets starts.now }
-    requires class { IsClassOf (parts_of net.now) (offset net.now.nets clock) class.now }
-    ensures { IfOk result (λ taken. taken ≡ one_below (bits_of net.now.nets) (takes_as_data
-        (meaning net.now).system (meaning net.now).copy_of (ports.is_output_of (meaning net.now))
-        (offset net.now.nets clock))) }
+) -> Result<Option<u32>, Memory>
+    requires words { AreWords nets.now (trees_of words.now) }
+    requires drivers { All (NamesWord (trees_of words.now)) drivers.now }
+    requires size { length drivers.now ≡ bits_of nets.now }
+    requires few { bits_of nets.now < 2 ^ 32 }
+    requires starts { BeginAt nets.now starts.now }
+    requires class { IsClassOf (undressed nets.now (trees_of words.now) drivers.now) clock
+        class.now }
+    ensures { IfOk result (λ found. found ≡ first_below (bits_of nets.now) (takes
+        (design_of (undressed nets.now (trees_of words.now) drivers.now)) clock)) }
 {
     words_make_a_system();
-    let nets = net.nets.as_slice();
-    let rows = carry(alloc, Way::Reads, net.words.as_slice(), nets, starts, class)?;
+    let rows = carry(alloc, Way::Reads, words, nets, starts, class)?;
     let outputs = output_flags(alloc, nets)?;
-    let drivers = net.drivers.as_slice();
-    Ok(some_takes(drivers, &outputs, class, &rows))
+    Ok(first_of_takers(drivers, &outputs, class, &rows))
+}
+
+/// The first bit that takes a bit as data, as if that were a clock. Each word is walked over twice, and each bit.
+pub fn first_taking(
+    alloc: Global,
+    nets: &[NetInfo],
+    words: &[Word],
+    drivers: &[Driver],
+    clock: u32,
+) -> Result<Option<u32>, Memory>
+    requires words { AreWords nets.now (trees_of words.now) }
+    requires drivers { All (NamesWord (trees_of words.now)) drivers.now }
+    requires size { length drivers.now ≡ bits_of nets.now }
+    requires few { bits_of nets.now < 2 ^ 32 }
+    ensures ok { IfOk result (λ found. found ≡ first_below (bits_of nets.now) (takes
+        (design_of (undressed nets.now (trees_of words.now) drivers.now)) clock)) }
+{
+    let starts = net_starts(alloc, nets)?;
+    let class = class_of(alloc, nets, words, drivers, &starts, clock)?;
+    first_of_class(alloc, nets, words, drivers, &starts, &class, clock)
+}
+
+/// The number of a net's first bit.
+fn start_of(starts: &[u32], net: u32) -> u32
+    requires { net < length starts.now }
+    ensures { result ≡ slice_index_or starts.now net 0 }
+{
+    starts[net as usize]
 }
 
 /// Whether some bit takes a net's first bit as data, as if it were a clock.
@@ -180,7 +235,15 @@ pub fn takes_port(alloc: Global, net: &Net, clock: u32) -> Result<bool, Memory>
     ensures { IfOk result (λ taken. taken ≡
         ports.takes_port (meaning net.now) (name_at net.now.nets clock)) }
 {
-    let starts = net_starts(alloc, net.nets.as_slice())?;
-    let class = class_of(alloc, net, &starts, clock)?;
-    is_taken(alloc, net, &starts, &class, clock)
+    let nets = net.nets.as_slice();
+    let starts = net_starts(alloc, nets)?;
+    let bit = start_of(&starts, clock);
+    let found = first_taking(
+        alloc,
+        nets,
+        net.words.as_slice(),
+        net.drivers.as_slice(),
+        bit,
+    )?;
+    Ok(found.is_some())
 }

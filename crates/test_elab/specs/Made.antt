@@ -4,13 +4,13 @@ use Rattle.eq_net.specs.declared.types.NetInfo.{NetInfo}
 use Rattle.eq_net.specs.declared.types.Dir.{Dir}
 use Rattle.eq_net.specs.declared.types.Dir.TheVariants.{Inner, Input as InputPort, Output as OutputPort}
 use Rattle.eq_net.specs.declared.types.Driver.{Driver}
-use Rattle.eq_net.specs.declared.types.Driver.TheVariants.{Input, Expr, Reg}
+use Rattle.eq_net.specs.declared.types.Driver.TheVariants.{Input, Undriven as NoDriver, Expr, Reg}
 use Rattle.eq_net.specs.Tree.{Tree, negated, read}
 use Rattle.eq_net.specs.Net.{Parts}
 use Rattle.eq_net.specs.Decided.{is_net, is_port}
 use Rattle.test_elab.specs.declared.types.Draft.{Draft}
 use Rattle.test_elab.specs.declared.types.Form.{Form}
-use Rattle.test_elab.specs.declared.types.Form.TheVariants.{Copy, Inverted, Next}
+use Rattle.test_elab.specs.declared.types.Form.TheVariants.{Copy, Inverted, Next, Undriven}
 use Rattle.test_elab.specs.declared.types.Line.{Line}
 
 abbrev pub net_of : Line → NetInfo
@@ -25,6 +25,7 @@ abbrev pub driver_of : Form → ℕ → Driver
 driver_of Copy word = Expr word 0
 driver_of Inverted word = Expr word 0
 driver_of Next word = Reg false word 0
+driver_of Undriven word = NoDriver
 
 abbrev pub drivers_of : Dir → Form → ℕ → ℕ → List Driver
 drivers_of InputPort form wide word = copies Input (suc wide)
@@ -39,6 +40,7 @@ abbrev pub word_of : Form → ℕ → Tree
 word_of Copy net = reading net
 word_of Inverted net = negated (reading net)
 word_of Next net = reading net
+word_of Undriven net = reading net
 
 abbrev pub with_port : Dir → ℕ → List ℕ → List ℕ
 with_port dir k ports = if is_port dir then ports ++ k ∷ [] else ports

@@ -129,3 +129,47 @@ pub const CLOCK_STORED: [Line; 4] = [
     line!(b"y", 0, Output, Copy, 1, 1),
     line!(b"q", 0, Inner, Next, 0, 0),
 ];
+
+/// `u` has no driver, and nothing reads it.
+pub const UNREAD: [Line; 3] = [
+    line!(b"a", 0, Input, Copy, 0, 0),
+    line!(b"u", 0, Inner, Undriven, 0, 0),
+    line!(b"y", 0, Output, Copy, 0, 1),
+];
+
+/// `y` reads `u` behind the three bits of `a`, and both `u` and `v` have no driver.
+pub const READ_BEHIND: [Line; 4] = [
+    line!(b"a", 2, Input, Copy, 0, 0),
+    line!(b"v", 0, Inner, Undriven, 0, 0),
+    line!(b"y", 0, Output, Inverted, 3, 1),
+    line!(b"u", 0, Inner, Undriven, 0, 0),
+];
+
+/// The output `y` has no driver.
+pub const NO_OUTPUT: [Line; 2] = [
+    line!(b"a", 0, Input, Copy, 0, 0),
+    line!(b"y", 0, Output, Undriven, 0, 0),
+];
+
+/// `x`, an output without driver, stands before `u`, which `y` reads.
+pub const OUTPUT_FIRST: [Line; 4] = [
+    line!(b"a", 0, Input, Copy, 0, 0),
+    line!(b"x", 0, Output, Undriven, 0, 0),
+    line!(b"u", 0, Inner, Undriven, 0, 0),
+    line!(b"y", 0, Output, Copy, 2, 1),
+];
+
+/// `u`, which `y` reads, stands before `x`, an output without driver.
+pub const READ_FIRST: [Line; 4] = [
+    line!(b"y", 0, Output, Copy, 2, 1),
+    line!(b"a", 0, Input, Copy, 0, 0),
+    line!(b"u", 0, Inner, Undriven, 0, 0),
+    line!(b"x", 0, Output, Undriven, 0, 0),
+];
+
+/// The register `q` has `u` as its next value.
+pub const NEXT_UNDRIVEN: [Line; 3] = [
+    line!(b"a", 0, Input, Copy, 0, 0),
+    line!(b"u", 0, Inner, Undriven, 0, 0),
+    line!(b"q", 0, Output, Next, 1, 0),
+];

@@ -25,6 +25,7 @@ fn driver(form: Form, word: u32) -> Driver
             word,
             bit: 0,
         },
+        Form::Undriven => Driver::Undriven,
     }
 }
 
@@ -94,6 +95,7 @@ fn word(alloc: Global, form: Form, net: u32) -> Result<Word, Fail>
         Form::Copy => Ok(word),
         Form::Inverted => inverted(alloc, word),
         Form::Next => Ok(word),
+        Form::Undriven => Ok(word),
     }
 }
 

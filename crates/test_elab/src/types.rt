@@ -10,6 +10,8 @@ pub enum Form {
     Inverted,
     /// As a register's next value.
     Next,
+    /// Not at all: it has no driver.
+    Undriven,
 }
 
 /// A net. An input has one bit, or the range `[wide:0]`, and comes from outside; any other net has one bit, and stands at a

@@ -1,7 +1,6 @@
 -- Mirrors src/marks.rt; nothing here has to be believed.
 -- Marks of bits, by position, what operators make of them, and stacks of marks.
-use Rattle.std.specs.Prelude.{◌≡◌, ℕ, zero, suc, ◌+◌, ◌-◌, ◌<◌, ◌==◌, List, if◌then◌else◌, nat_lt, length, slice_index_or, Option, None}
-use Rattle.std.specs.Option.{option_or}
+use Rattle.std.specs.Prelude.{◌≡◌, ℕ, zero, suc, ◌+◌, ◌-◌, ◌<◌, ◌==◌, List, Bool, false, if◌then◌else◌, nat_lt, min, length, slice_index_or, Option, Some, None}
 use Rattle.eq_net.specs.declared.types.WordOp.{WordOp}
 use Rattle.eq_net.specs.declared.types.WordOp.TheVariants.{And, Or, Xor, Xnor, Add, Sub, Shl, Shr, Eq, Ne, Lt, Le, Gt, Ge, LogAnd, LogOr}
 use Rattle.eq_elab.specs.declared.marks.Way.{Way}
@@ -10,10 +9,21 @@ use Rattle.eq_elab.specs.declared.marks.Way.TheVariants.{Copies, Reads}
 abbrev pub Marks : Type 0
 Marks = ℕ → Option ℕ
 
+-- the smaller of two marks, where there are any
+abbrev pub least : Option ℕ → Option ℕ → Option ℕ
+least None y = y
+least (Some a) None = Some a
+least (Some a) (Some b) = Some (min a b)
+
+-- there is a mark, and it is below t
+abbrev pub is_under : ℕ → Option ℕ → Bool
+is_under t None = false
+is_under t (Some a) = nat_lt a t
+
 -- what an operator makes of two marks
 abbrev pub mixed : Way → Option ℕ → Option ℕ → Option ℕ
 mixed Copies x y = None
-mixed Reads x y = option_or x y
+mixed Reads x y = least x y
 
 -- what an operator makes of the marks of the lowest n bits
 abbrev pub mixed_all : Way → ℕ → Marks → Option ℕ

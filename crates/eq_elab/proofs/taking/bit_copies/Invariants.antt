@@ -5,4 +5,4 @@ use Rattle.eq_elab.proofs.taking.bit_copies.Given as goal
 
 abbrev pub invariant-loop-driver : goal.invariant-loop-driver
 invariant-loop-driver l = l.copies.items ≡ map (driven_mark (rows_mark l.rows.items)) (take l.driver-index
-    l.net.drivers)
+    l.drivers)
