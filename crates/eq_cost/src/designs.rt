@@ -79,8 +79,8 @@ pub fn design_cost(
 }
 
 /// The cost, where it is too much.
-fn excess(cost: u64) -> Option<u64>
-    ensures { result ≡ if nat_lt refusals.most_cost cost then Some cost else None }
+pub fn excess(cost: u64) -> Option<u64>
+    ensures ok { result ≡ if nat_lt refusals.most_cost cost then Some cost else None }
 {
     if cost > MOST_COST { Some(cost) } else { None }
 }

@@ -24,4 +24,4 @@ mod statements;
 mod target_sizes;
 mod values;
 
-pub use designs::{design_cost, too_large};
+pub use designs::{design_cost, excess, too_large};

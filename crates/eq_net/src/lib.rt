@@ -37,7 +37,7 @@ pub use automatic::is_automatic;
 pub use cycle::{State, Stepped, initial, step};
 pub use eq_base::{Bits, Memory};
 pub use eq_names::{BitName, Name};
-pub use naming::bit_text;
+pub use naming::{bit_text, named_position};
 pub use net::Net;
 pub use types::{
     BitNames, Dir, Driver, Drivers, NetInfo, NetInfos, NetNumbers, RedOp, Word, WordBit, WordBits,

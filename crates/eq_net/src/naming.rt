@@ -47,8 +47,8 @@ fn indexed(alloc: Global, name: &Name, index: u32) -> Result<Bytes, Memory>
     Ok(text)
 }
 
-/// The name of a position of a net.
-fn named_position(alloc: Global, net: &NetInfo, position: u32) -> Result<Name, Memory>
+/// The name of a position of a net: the net's own name where it has no range, and with its index in brackets where it has one.
+pub fn named_position(alloc: Global, net: &NetInfo, position: u32) -> Result<Name, Memory>
     requires { position < width_of net.now }
     ensures { IfOk result (λ name. name ≡ bit_name net.now position) }
 {

@@ -8,7 +8,7 @@ pub returns : goal.returns
 returns c =
     record {
       ok =
-          c.excess.ensures
+          c.excess.ensures.ok
           ∙ excess_told (design_cost (trees_at c.args.tables.now) c.args.top.now) c.in_ok-cost.cost
           c.in_ok-cost.ensures.ok;
     }
