@@ -7,12 +7,13 @@ use Rattle.eq_match.specs.declared.types.Pair.{Pair}
 use Rattle.eq_match.specs.Groups.{is_held}
 use Rattle.eq_match.specs.Leaders.{one_leader}
 use Rattle.eq_part.specs.Reach.{LeadsIn, LiesBetween}
-use Rattle.eq_part.specs.declared.reached.Edge.{Edge}
-use Rattle.eq_part.specs.inner.Graph.{AreBetween, Chain, Joins, from_at, to_at}
+use Rattle.eq_reads.specs.declared.graph.Edge.{Edge}
+use Rattle.eq_reads.specs.Graph.{AreBetween, Joins, from_at, to_at}
+use Rattle.eq_reads.specs.inner.Chains.{Chain}
 use Rattle.eq_part.specs.inner.Visits.{AreLed, AreVisits, IsPassed, IsWalked, Visits, outer, part_node}
 use Rattle.eq_part.proofs.Routes.{steps_way, way_steps}
 use Rattle.eq_part.proofs.Stepped.{edges_way, visits_way}
-use Rattle.eq_part.proofs.Ways.{Way, way_from, way_none}
+use Rattle.eq_reads.proofs.Ways.{Way, way_from, way_none}
 
 -- a chain the other way round
 pub chain_turned : (edges along : List Edge) → ((a b : ℕ) → Joins edges a b → Joins along b a) → (n a b : ℕ) →

@@ -1,25 +1,24 @@
 -- The edges of words, pairs and bits that are in none make the graph of visits.
-use Rattle.std.proofs.Common.{◌≡◌, ℕ, zero, suc, ◌+◌, ◌<◌, ◌↔◌, List, Bool, true, false, not, length, Contains, refl, arith, sym, subst, ◌∙◌, inl, inr}
+use Rattle.std.proofs.Common.{◌≡◌, ℕ, ◌+◌, ◌<◌, ◌↔◌, List, Bool, true, false, not, length, Contains, refl, arith, sym, subst, ◌∙◌, inl, inr}
 use Rattle.eq_model.specs.Frames.{values}
 use Rattle.eq_model.specs.System.{reads_ever}
 use Rattle.eq_net.specs.declared.types.Driver.{Driver}
 use Rattle.eq_net.specs.declared.types.Driver.TheVariants.{Input, Undriven, Expr as WordOf, Reg}
-use Rattle.eq_net.specs.Meaning.{reads_of}
-use Rattle.eq_net.specs.Net.{IsNet, NamesWord, Parts, bits_of, driver_at, number_of, source_of}
+use Rattle.eq_net.specs.Net.{IsNet, NamesWord, Parts, bits_of, driver_at, source_of}
 use Rattle.eq_match.specs.declared.types.Pair.{Pair}
 use Rattle.eq_match.specs.Matched.{gold_bit}
 use Rattle.eq_match.specs.Pairs.{pair_at}
-use Rattle.eq_part.specs.declared.nodes.Nodes.{Nodes}
-use Rattle.eq_part.specs.declared.reached.Edge.{Edge}
-use Rattle.eq_part.specs.inner.Graph.{Joins, from_at, to_at}
-use Rattle.eq_part.specs.inner.Leading.{Leads, LeadsBy, LeadsTo}
-use Rattle.eq_part.specs.inner.Reading.{IsReady, picked_node}
-use Rattle.eq_part.specs.inner.Visits.{AreLed, AreVisits, DrawnVisits, Gains, IsPlacedDriver, IsWordBit, Unpaired, Visits, outer, part_node}
-use Rattle.eq_part.specs.inner.Walking.{number_at}
-use Rattle.eq_part.proofs.Grown.{leaf_leads}
-use Rattle.eq_part.proofs.Placed.{named_there, placed_driver}
-use Rattle.eq_part.proofs.Ranged.{none_read}
-use Rattle.eq_part.proofs.Ways.{all_at, table_word}
+use Rattle.eq_reads.specs.declared.graph.Nodes.{Nodes}
+use Rattle.eq_reads.specs.declared.graph.Edge.{Edge}
+use Rattle.eq_reads.specs.Graph.{Joins, from_at, to_at, Leads}
+use Rattle.eq_reads.specs.Words.{LeadsTo, IsReady, picked_node, number_at}
+use Rattle.eq_part.specs.inner.Visits.{AreLed, AreVisits, DrawnVisits, IsWordBit, Unpaired, Visits, outer, part_node}
+use Rattle.eq_reads.specs.inner.Drawing.{Gains, IsPlacedDriver}
+use Rattle.eq_reads.proofs.Grown.{leaf_leads}
+use Rattle.eq_reads.proofs.Gained.{leads_still}
+use Rattle.eq_reads.proofs.Placed.{named_there, placed_driver, word_leads}
+use Rattle.eq_reads.proofs.Ranged.{none_read}
+use Rattle.eq_reads.proofs.Ways.{all_at}
 
 held_is : (b : Bool) → b ≡ false → not b ≡ true
 held_is true is = absurd (cc)
@@ -31,7 +30,7 @@ input_is false is = refl
 
 module _ (gold : Parts) (net : IsNet gold) (pairs : List Pair) (leaders : List ℕ) (led : AreLed gold pairs leaders)
     (places : List ℕ) (s : Nodes) (row : List ℕ)
-    (ready : IsReady gold places s row) (count : length places ≡ length gold.words)
+    (ready : IsReady gold.nets gold.words places s row) (count : length places ≡ length gold.words)
     (none_is : s.none ≡ outer gold pairs)
     (paired : List Bool) (told : (b : ℕ) → b < bits_of gold.nets → (values paired b ≡ false) ↔ Unpaired gold pairs b)
     (edges : List Edge) (gains : Gains s.edges.items edges (DrawnVisits gold pairs leaders (values paired) places
@@ -59,35 +58,23 @@ module _ (gold : Parts) (net : IsNet gold) (pairs : List Pair) (leaders : List �
   drawn_outside a b (inr f) = (let lt = f.before in omega arith)
 
   -- edges from bits and partitions change nothing of what inner nodes lead to
-  kept_by : (n x c : ℕ) → LeadsBy s.edges.items s.none n x c → LeadsBy edges none n x c
-  kept_by zero x c l = (l.0, (let lt = l.1 in omega arith))
-  kept_by (suc n) x c (y, inner, j, l) = (y, omega arith, gains.kept x y j, kept_by n y c l)
-
-  back_by : (n x c : ℕ) → LeadsBy edges none n x c → LeadsBy s.edges.items s.none n x c
-  back_by zero x c l = (l.0, (let lt = l.1 in omega arith))
-  back_by (suc n) x c (y, inner, j, l) = elim (gains.only x y j) [
-    | inl old ↦ (y, omega arith, old, back_by n y c l)
-    | inr new ↦ (let out = drawn_outside x y new in absurd (omega arith))
-  ]
+  still : (x c : ℕ) → Leads edges none x c ↔ LeadsTo s x c
+  still x c = subst (λ (n : ℕ). Leads edges none x c ↔ Leads s.edges.items n x c) (sym none_is)
+      (leads_still s.edges.items edges none D gains drawn_outside x c)
 
   -- ---- what drives a bit
 
-  word_leads : (w j c : ℕ) → NamesWord gold.words (WordOf w j) →
+  leads_word : (w j c : ℕ) → NamesWord gold.words (WordOf w j) →
       LeadsTo s (picked_node places row (record { word = w; bit = j })) c ↔
       Contains (reads_ever (source_of gold.nets gold.words (WordOf w j))) c
-  word_leads w j c named =
-      let lt = named.0 in
-      let t = (ready.told w j (omega arith) named.1).leads c in
-      let is = table_word (reads_of (number_of gold.nets)) gold.words (length gold.words) w j named.0 in
-      let P : List ℕ → Type 0 = λ rs. Contains rs c in
-      (λ l. subst P (sym is) (t.0 l), λ h. t.1 (subst P is h))
+  leads_word w j c named = word_leads gold.nets gold.words places s row ready (omega arith) w j c named
 
   driver_leads : (d : Driver) → NamesWord gold.words d → (x c : ℕ) → IsWordBit places row d x → LeadsTo s x c →
       Contains (reads_ever (source_of gold.nets gold.words d)) c
   driver_leads Input named x c driven l = absurd driven
   driver_leads Undriven named x c driven l = absurd driven
-  driver_leads (WordOf w j) named x c driven l = (word_leads w j c named).0 (subst (λ (y : ℕ). LeadsTo s y c) driven l)
-  driver_leads (Reg init w j) named x c driven l = (word_leads w j c named).0 (subst (λ (y : ℕ). LeadsTo s y c) driven
+  driver_leads (WordOf w j) named x c driven l = (leads_word w j c named).0 (subst (λ (y : ℕ). LeadsTo s y c) driven l)
+  driver_leads (Reg init w j) named x c driven l = (leads_word w j c named).0 (subst (λ (y : ℕ). LeadsTo s y c) driven
       l)
 
   driver_read : (d : Driver) → NamesWord gold.words d → (c : ℕ) →
@@ -97,12 +84,12 @@ module _ (gold : Parts) (net : IsNet gold) (pairs : List Pair) (leaders : List �
   driver_read (WordOf w j) named c h = (
     picked_node places row (record { word = w; bit = j }),
     refl,
-    (word_leads w j c named).1 h,
+    (leads_word w j c named).1 h,
   )
   driver_read (Reg init w j) named c h = (
     picked_node places row (record { word = w; bit = j }),
     refl,
-    (word_leads w j c named).1 h,
+    (leads_word w j c named).1 h,
   )
 
   driver_there : (d : Driver) → IsPlacedDriver places row d → (x : ℕ) → IsWordBit places row d x → x < s.next
@@ -115,7 +102,7 @@ module _ (gold : Parts) (net : IsNet gold) (pairs : List Pair) (leaders : List �
   named b = all_at (NamesWord gold.words) gold.drivers Undriven net.drivers_named tt b
 
   bit_there : (b x : ℕ) → IsWordBit places row (d_at b) x → x < s.next
-  bit_there b x driven = driver_there (d_at b) (placed_driver gold places s row ready (omega arith) net b) x driven
+  bit_there b x driven = driver_there (d_at b) (placed_driver gold.nets gold.words places s row ready (omega arith) gold.drivers net.drivers_named b) x driven
 
   -- ---- the graph
 
@@ -135,14 +122,8 @@ module _ (gold : Parts) (net : IsNet gold) (pairs : List Pair) (leaders : List �
 
   below : (a b : ℕ) → Joins edges a b → (a < s.next) × (b < s.next)
   below a b j = elim (gains.only a b j) [
-    | inl old ↦ (ready.are.starts a b old, ready.are.ends a b old)
+    | inl old ↦ (let st = ready.are.starts a b old in let d = ready.are.down a b old in (st, omega arith))
     | inr new ↦ drawn_below a b new
-  ]
-
-  none_joined : (b : ℕ) → ¬ Joins edges none b
-  none_joined b j = elim (gains.only none b j) [
-    | inl old ↦ (let i = ready.are.inner none b old in absurd (omega arith))
-    | inr new ↦ (let out = drawn_outside none b new in absurd (omega arith))
   ]
 
   there : (a b : ℕ) → Visits gold pairs leaders a b → (x : ℕ) × Joins edges a x × Leads edges none x b
@@ -158,7 +139,7 @@ module _ (gold : Parts) (net : IsNet gold) (pairs : List Pair) (leaders : List �
           inl (v.is, r.1),
         );
       }) in
-      (r.0, gains.there a r.0 drawn, (r.2.0, kept_by r.2.0 r.0 b r.2.1))
+      (r.0, gains.there a r.0 drawn, (still r.0 b).1 r.2)
   there a b (inr (inl v)) =
       let drawn : D a b = inl (record {
         pair = v.output;
@@ -172,7 +153,7 @@ module _ (gold : Parts) (net : IsNet gold) (pairs : List Pair) (leaders : List �
   there a b (inr (inr v)) =
       let r = driver_read (d_at a) (named a) b v.reads in
       let drawn : D a r.0 = inr (record { before = v.there; free = (told a v.there).1 v.unpaired; driven = r.1 }) in
-      (r.0, gains.there a r.0 drawn, (r.2.0, kept_by r.2.0 r.0 b r.2.1))
+      (r.0, gains.there a r.0 drawn, (still r.0 b).1 r.2)
 
   only_drawn : (a x b : ℕ) → D a x → Leads edges none x b → Visits gold pairs leaders a b
   only_drawn a x b (inl p) l = elim p.visits.1 [
@@ -183,7 +164,7 @@ module _ (gold : Parts) (net : IsNet gold) (pairs : List Pair) (leaders : List �
           there = p.before;
           held = held_is (pair_at pairs p.pair).input p.visits.0;
           is = part.0;
-          reads = driver_leads (d_at bit) (named bit) x b part.1 (l.0, back_by l.0 x b l.1);
+          reads = driver_leads (d_at bit) (named bit) x b part.1 ((still x b).0 l);
         }))
     | inr o ↦ (
         let out = part_outside p.pair p.before in
@@ -201,7 +182,7 @@ module _ (gold : Parts) (net : IsNet gold) (pairs : List Pair) (leaders : List �
   only_drawn a x b (inr f) l = inr (inr (record {
     there = f.before;
     unpaired = (told a f.before).0 f.free;
-    reads = driver_leads (d_at a) (named a) x b f.driven (l.0, back_by l.0 x b l.1);
+    reads = driver_leads (d_at a) (named a) x b f.driven ((still x b).0 l);
   }))
 
   pub all_visits : AreVisits gold pairs leaders edges s.next
@@ -213,7 +194,6 @@ module _ (gold : Parts) (net : IsNet gold) (pairs : List Pair) (leaders : List �
       ends = λ e lt. (below (from_at edges e) (to_at edges e)
           (record { edge = e; there = lt; starts = refl; ends = refl })).1;
     };
-    none = none_joined;
     there = there;
     only = λ a x b lt j l. elim (gains.only a x j) [
       | inl old ↦ (let i = ready.are.inner a x old in absurd (omega arith))

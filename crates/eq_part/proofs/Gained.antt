@@ -1,45 +1,16 @@
 -- Edges that are gained, in loops.
-use Rattle.std.proofs.Common.{◌≡◌, ℕ, ◌+◌, ◌⊎◌, Bool, true, false, List, arith, sym, subst, inl, inr}
+use Rattle.std.proofs.Common.{◌≡◌, ℕ, ◌+◌, Bool, true, false, List, arith, sym, subst, inl, inr}
 use Rattle.std.proofs.lemmas.Bool.{cases_lt}
 use Rattle.eq_net.specs.declared.types.Driver.{Driver}
 use Rattle.eq_net.specs.Net.{Parts, driver_at}
 use Rattle.eq_match.specs.declared.types.Pair.{Pair}
 use Rattle.eq_match.specs.Pairs.{pair_at}
 use Rattle.eq_match.specs.Matched.{gold_bit}
-use Rattle.eq_part.specs.declared.reached.Edge.{Edge}
-use Rattle.eq_part.specs.inner.Graph.{Joins}
-use Rattle.eq_part.specs.inner.Reading.{Adds}
-use Rattle.eq_part.specs.inner.Visits.{FreeVisits, Gains, IsWordBit, OneVisits, PairsVisit, part_node}
-
--- more is gained afterwards
-pub gains_then : (a b c : List Edge) (P Q R : ℕ → ℕ → Type 0) → ((x y : ℕ) → P x y → R x y) →
-    ((x y : ℕ) → Q x y → R x y) → ((x y : ℕ) → R x y → P x y ⊎ Q x y) →
-    Gains a b P → Gains b c Q → Gains a c R
-gains_then a b c P Q R pr qr rpq f g = record {
-  kept = λ u v j. g.kept u v (f.kept u v j);
-  there = λ u v r. elim (rpq u v r) [ inl p ↦ g.kept u v (f.there u v p) | inr q ↦ g.there u v q ];
-  only = λ u v j. elim (g.only u v j) [
-    | inl before ↦ elim (f.only u v before) [ inl old ↦ inl old | inr p ↦ inr (pr u v p) ]
-    | inr q ↦ inr (qr u v q)
-  ];
-}
-
--- the same, said otherwise
-pub gains_same : (a b : List Edge) (P Q : ℕ → ℕ → Type 0) → ((x y : ℕ) → P x y → Q x y) → ((x y : ℕ) → Q x y → P x y)
-    → Gains a b P → Gains a b Q
-gains_same a b P Q pq qp f = record {
-  kept = f.kept;
-  there = λ u v q. f.there u v (qp u v q);
-  only = λ u v j. elim (f.only u v j) [ inl old ↦ inl old | inr p ↦ inr (pq u v p) ];
-}
-
--- edges from one node
-pub gains_from : (a b : List Edge) (from : ℕ) (P : ℕ → Type 0) → Adds a b from P → Gains a b (λ x y. (x ≡ from) × P y)
-gains_from a b from P f = record {
-  kept = f.kept;
-  there = λ u v p. subst (λ (x : ℕ). Joins b x v) (sym p.0) (f.there v p.1);
-  only = f.only;
-}
+use Rattle.eq_reads.specs.declared.graph.Edge.{Edge}
+use Rattle.eq_reads.specs.Graph.{Adds}
+use Rattle.eq_part.specs.inner.Visits.{FreeVisits, IsWordBit, OneVisits, PairsVisit, part_node}
+use Rattle.eq_reads.specs.inner.Drawing.{Gains}
+use Rattle.eq_reads.proofs.Gained.{gains_from, gains_same, gains_then}
 
 -- a node's edges to its driver's bit, or none
 pub free_next : (gold : Parts) (paired : ℕ → Bool) (places row : List ℕ) (k : ℕ) (e0 e1 e2 : List Edge) →

@@ -2,8 +2,8 @@
 use Rattle.std.proofs.Common.{◌≡◌, ◌≢◌, ℕ, zero, suc, ◌<◌, ◌≤◌, ◌==◌, true, false, List, cond, arith, sym, ap, subst, ◌∙◌, inl, inr}
 use Rattle.std.proofs.lemmas.Bool.{cases_lt}
 use Rattle.std.proofs.lemmas.Bool.Decides.{eqb_tells}
-use Rattle.eq_part.specs.declared.reached.Edge.{Edge}
-use Rattle.eq_part.specs.inner.Graph.{from_at}
+use Rattle.eq_reads.specs.declared.graph.Edge.{Edge}
+use Rattle.eq_reads.specs.Graph.{from_at}
 use Rattle.eq_part.specs.inner.Walking.{last_from}
 
 -- the last edge is one of the first k

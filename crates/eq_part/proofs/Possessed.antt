@@ -13,7 +13,7 @@ use Rattle.eq_match.specs.Pairs.{no_pair, pair_at}
 use Rattle.eq_part.specs.declared.types.Partition.{Partition}
 use Rattle.eq_part.specs.Tables.{AreOwners, holds, no_part}
 use Rattle.eq_part.specs.inner.Tabling.{AreOwned, AreOwnedBy, HoldOnce, place_at}
-use Rattle.eq_part.specs.inner.Walking.{number_at}
+use Rattle.eq_reads.specs.Words.{number_at}
 use Rattle.eq_part.proofs.Tabled.{get_some, no_place}
 
 -- ---- members of a list

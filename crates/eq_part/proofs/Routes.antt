@@ -12,12 +12,13 @@ use Rattle.eq_match.specs.Leaders.{one_leader}
 use Rattle.eq_match.specs.Pairs.{pair_at}
 use Rattle.eq_match.specs.Matched.{gold_bit}
 use Rattle.eq_part.specs.Reach.{AreOfOne, GoesOn, LeadsIn, PartLeads, Reaches}
-use Rattle.eq_part.specs.inner.Graph.{Chain}
+use Rattle.eq_reads.specs.inner.Chains.{Chain}
 use Rattle.eq_part.specs.inner.Visits.{AreLed, Unpaired, Visits, part_node}
-use Rattle.eq_part.specs.inner.Walking.{number_at}
-use Rattle.eq_part.proofs.Placed.{named_there}
-use Rattle.eq_part.proofs.Ranged.{none_read}
-use Rattle.eq_part.proofs.Ways.{Way, find_pair, way_from, way_none, way_one, way_then}
+use Rattle.eq_reads.specs.Words.{number_at}
+use Rattle.eq_reads.proofs.Placed.{named_there}
+use Rattle.eq_reads.proofs.Ranged.{none_read}
+use Rattle.eq_reads.proofs.Ways.{Way, way_from, way_none, way_one, way_then}
+use Rattle.eq_part.proofs.Ways.{find_pair}
 
 -- a driver reads bits of the system alone
 driver_below : (bits : ℕ) (d : Source) → IsDriver bits d → (c : ℕ) → Contains (reads_ever d) c → c < bits

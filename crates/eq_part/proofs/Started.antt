@@ -3,7 +3,7 @@ use Rattle.std.proofs.Common.{◌≡◌, ℕ, List, Bool, true}
 use Rattle.eq_model.specs.Frames.{values}
 use Rattle.eq_net.specs.Net.{Parts}
 use Rattle.eq_match.specs.declared.types.Pair.{Pair}
-use Rattle.eq_part.specs.declared.reached.Edge.{Edge}
+use Rattle.eq_reads.specs.declared.graph.Edge.{Edge}
 use Rattle.eq_part.specs.inner.Graph.{IsReached}
 use Rattle.eq_part.specs.inner.Visits.{IsRoot, IsWalked}
 

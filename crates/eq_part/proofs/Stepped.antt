@@ -1,14 +1,14 @@
 -- Chains of edges between bits and partitions are chains of visits.
 use Rattle.std.proofs.Common.{◌≡◌, ℕ, zero, suc, ◌<◌, ◌≤◌, ◌⊎◌, List, refl, arith, sym, subst, inl, inr}
-use Rattle.std.proofs.lemmas.Bool.{cases_lt, cases_order}
+use Rattle.std.proofs.lemmas.Bool.{cases_lt}
 use Rattle.eq_net.specs.Net.{Parts}
 use Rattle.eq_match.specs.declared.types.Pair.{Pair}
-use Rattle.eq_part.specs.declared.reached.Edge.{Edge}
-use Rattle.eq_part.specs.inner.Graph.{Chain, Joins}
-use Rattle.eq_part.specs.inner.Leading.{Leads, LeadsBy}
+use Rattle.eq_reads.specs.declared.graph.Edge.{Edge}
+use Rattle.eq_reads.specs.inner.Chains.{Chain}
+use Rattle.eq_reads.specs.Graph.{Joins, Leads, LeadsBy}
 use Rattle.eq_part.specs.inner.Visits.{AreVisits, Visits, outer}
-use Rattle.eq_part.proofs.Grown.{step}
-use Rattle.eq_part.proofs.Ways.{Way, way_from, way_none, way_one, way_then}
+use Rattle.eq_reads.proofs.Grown.{step}
+use Rattle.eq_reads.proofs.Ways.{Way, way_from, way_none, way_one, way_then}
 
 module _ (gold : Parts) (pairs : List Pair) (leaders : List ℕ) (edges : List Edge) (nodes : ℕ)
     (graph : AreVisits gold pairs leaders edges nodes) where
@@ -58,10 +58,7 @@ module _ (gold : Parts) (pairs : List Pair) (leaders : List ℕ) (edges : List E
     | inl same ↦ arrives a k.last x k.way k.from.outside
         (λ c l. graph.only k.last x c k.from.outside (subst (λ (y : ℕ). Joins edges y x) same j) l)
     | inr deep ↦ arrives a k.last x k.way k.from.outside
-        (λ c l. deep.1 c (step edges first z x c (elim (cases_order first z) [
-          | inl none ↦ absurd (graph.none x (subst (λ (y : ℕ). Joins edges y x) (sym none) j))
-          | inr far ↦ elim far [ inl less ↦ less | inr more ↦ (let le = deep.0 in absurd (omega arith)) ]
-        ]) j l))
+        (λ c l. deep.1 c (step edges first z x c deep.0 j l))
   ]
 
   comes : (n a x : ℕ) → a < first → Chain (Joins edges) n a x → Comes a x

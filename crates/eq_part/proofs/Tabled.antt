@@ -7,7 +7,7 @@ use Rattle.std.proofs.lemmas.List.{length-replicate}
 use Rattle.std.proofs.lemmas.Option.{get_or_from_slice_get, same_Some, slice_get-get_or, slice_get_within}
 use Rattle.eq_part.specs.Tables.{AreInverse}
 use Rattle.eq_part.specs.inner.Tabling.{AreOnceBelow, AreWritten, place_at}
-use Rattle.eq_part.specs.inner.Walking.{number_at}
+use Rattle.eq_reads.specs.Words.{number_at}
 
 pub none_there : (size k : ℕ) → place_at (replicate size None) k ≡ None
 none_there zero k = refl

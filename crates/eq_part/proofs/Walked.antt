@@ -6,9 +6,12 @@ use Rattle.std.proofs.lemmas.List.{get_or-set_same, get_or-set_other}
 use Rattle.std.proofs.Math.ListN.{get_or-append, length-replicate, set}
 use Rattle.std.proofs.Math.Seq.{get_or-append_seam}
 use Rattle.eq_model.specs.Frames.{values}
-use Rattle.eq_part.specs.declared.reached.Edge.{Edge}
-use Rattle.eq_part.specs.inner.Graph.{Chain, IsReached, Joins, edge_at, from_at, to_at}
-use Rattle.eq_part.specs.inner.Walking.{AreLinks, Grew, IsSettled, IsUnderway, last_from, number_at, unmarked}
+use Rattle.eq_reads.specs.declared.graph.Edge.{Edge}
+use Rattle.eq_reads.specs.inner.Chains.{Chain}
+use Rattle.eq_part.specs.inner.Graph.{IsReached}
+use Rattle.eq_reads.specs.Graph.{Joins, edge_at, from_at, to_at}
+use Rattle.eq_part.specs.inner.Walking.{AreLinks, Grew, IsSettled, IsUnderway, last_from, unmarked}
+use Rattle.eq_reads.specs.Words.{number_at}
 use Rattle.eq_part.proofs.Linking.{last_begins, last_is_last, last_within}
 
 pub fewer_unmarked : (marks : List Bool) (v : ℕ) → v < length marks → values marks v ≡ false → suc (unmarked (set marks v true)) ≡ unmarked marks

@@ -1,10 +1,7 @@
 -- Cited by proofs alone; nothing here has to be believed.
 pub mod Graph
-pub mod Leading
 pub mod Named
-pub mod Reading
 pub mod Renaming
-pub mod Shapes
 pub mod Starting
 pub mod States
 pub mod TablesProp

@@ -6,10 +6,7 @@
 //! - `state`, `uniting`: partitions while lines are read, and their unions (`union`).
 //! - `merging`, `renaming`: the lines `merge` and `name` (`RuleMakes`).
 //! - `reached`: what can be reached in a graph (`IsReached`).
-//! - `edges`, `row`: edges (`Adds`), and rows of nodes (`Appended`).
-//! - `nodes`, `operators`: nodes that lead to what others lead to (`RowGrew`), and those of operations (`OperandsLead`).
-//! - `words`: the nodes of words, a few for each bit (`WordGrew`).
-//! - `visits`: the graph of a walk against the reads (`AreVisits`).
+//! - `visits`: the graph of a walk against the reads (`AreVisits`), over the nodes of words of `eq_reads`.
 //! - `path`: `on_path`, the partitions on a path (`LiesBetween`). `joining`: the line `path`.
 //! - `lines`: all lines in their order (`SectionsMake`).
 //! - `wholes`, `finishing`: the partitions that are left when all lines are read, and their names (`IsNameOf`).
@@ -21,7 +18,6 @@
 
 mod clashes;
 mod dividing;
-mod edges;
 pub mod examples;
 mod finishing;
 mod joining;
@@ -29,14 +25,11 @@ pub mod laws;
 mod limits;
 mod lines;
 mod merging;
-mod nodes;
-mod operators;
 mod path;
 mod plan;
 mod planning;
 mod reached;
 mod renaming;
-mod row;
 mod starting;
 mod state;
 mod tables;
@@ -44,7 +37,6 @@ mod types;
 mod uniting;
 mod visits;
 mod wholes;
-mod words;
 
 pub use dividing::divide;
 pub use eq_base::Memory;

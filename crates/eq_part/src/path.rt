@@ -9,16 +9,17 @@ ghost use Rattle.eq_match.specs.Leaders.{one_leader};
 ghost use Rattle.eq_match.specs.Pairs.{pair_at};
 ghost use Rattle.eq_match.specs.Matched.{gold_bit};
 ghost use Rattle.eq_part.specs.Reach.{LiesBetween};
-ghost use Rattle.eq_part.specs.inner.Graph.{AreBetween, Joins};
+ghost use Rattle.eq_reads.specs.Graph.{AreBetween, Joins};
 ghost use Rattle.eq_part.specs.inner.Visits.{AreLed, IsPassed, IsRoot, IsWalked};
-ghost use Rattle.eq_part.specs.inner.Walking.{number_at};
+ghost use Rattle.eq_reads.specs.Words.{number_at};
 
-use crate::reached::{Edge, no_marks, reached};
+use crate::reached::{no_marks, reached};
 use crate::visits::{graph_of, pair_at};
 use eq_base::{Bits, Memory};
 use eq_match::Pair;
 use eq_net::Net;
 use eq_net::laws::words_make_a_system;
+use eq_reads::Edge;
 use std::alloc::Global;
 
 /// The edges the other way round.

@@ -2,18 +2,13 @@
 
 ghost use Rattle.std.specs.Prelude.{◌≡◌, ◌≢◌, ℕ, ◌+◌, ◌<◌, ◌≤◌, ◌↔◌, ◌⊎◌, true, false, IfOk, OnOk, [], ◌∷◌, ◌++◌, length, replicate, slice_index, slice_set};
 ghost use Rattle.eq_model.specs.Frames.{values};
-ghost use Rattle.eq_part.specs.inner.Graph.{AreBetween, IsReached, Joins};
+ghost use Rattle.eq_reads.specs.Graph.{AreBetween, Joins};
+ghost use Rattle.eq_part.specs.inner.Graph.{IsReached};
 ghost use Rattle.eq_part.specs.inner.Walking.{AreLinks, Grew, IsSettled, IsUnderway, unmarked};
 
 use eq_base::{Bits, Memory};
+use eq_reads::Edge;
 use std::alloc::Global;
-
-/// An edge of a graph whose nodes are numbers.
-#[derive(Clone, Copy, Debug, PartialEq, Eq)]
-pub struct Edge {
-    pub from: usize,
-    pub to: usize,
-}
 
 /// The edges of each node, as a chain of links from the last edge down.
 #[derive(Debug, Drop)]

@@ -6,19 +6,17 @@ ghost use Rattle.eq_match.specs.Classes.{Together};
 ghost use Rattle.eq_match.specs.Divided.{AreDivided};
 ghost use Rattle.eq_match.specs.Groups.{is_held};
 ghost use Rattle.eq_part.specs.Tables.{AreInverse, AreOwners};
-ghost use Rattle.eq_part.specs.inner.Reading.{BeginAt};
+ghost use Rattle.eq_reads.specs.Words.{BeginAt, number_at};
 ghost use Rattle.eq_part.specs.inner.Tabling.{AreOnceBelow, AreOwned, AreOwnedBy, HoldOnce};
-ghost use Rattle.eq_part.specs.inner.Walking.{number_at};
 
 use crate::plan::{BitNumbers, PairedBits, Places};
 use crate::types::Partition;
-use crate::visits::starts;
-use crate::words::named;
 use eq_base::{Items, Memory};
 use eq_match::Pair;
 use eq_names::BitName;
 use eq_net::laws::bits_stand_by_nets;
 use eq_net::{Net, NetInfo};
+use eq_reads::{named, starts};
 use std::alloc::Global;
 
 /// The bits of gold, pair by pair.

@@ -1,69 +1,24 @@
 //! The graph of a walk against the reads: bits that are read, partitions, and the nodes of words between them.
 
-ghost use Rattle.std.specs.Prelude.{◌≡◌, ℕ, ◌+◌, ◌<◌, ◌≤◌, ◌^◌, ◌↔◌, [], false, true, suc, IfOk, OnOk, length, replicate};
+ghost use Rattle.std.specs.Prelude.{◌≡◌, ℕ, ◌+◌, ◌<◌, ◌≤◌, ◌^◌, ◌↔◌, false, true, suc, IfOk, OnOk, length, replicate};
 ghost use Rattle.eq_model.specs.Frames.{values};
-ghost use Rattle.eq_net.specs.Net.{HasBit, bits_of, driver_at, number_of};
-ghost use Rattle.eq_net.specs.Tree.{tree_of, trees_of};
+ghost use Rattle.eq_net.specs.Net.{HasBit, bits_of, driver_at};
 ghost use Rattle.eq_net.specs.Whole.{parts_of};
 ghost use Rattle.eq_match.specs.Groups.{is_held};
 ghost use Rattle.eq_match.specs.Pairs.{pair_at};
 ghost use Rattle.eq_match.specs.Matched.{gold_bit};
-ghost use Rattle.eq_part.specs.inner.Leading.{AreNodes, NodesGrew};
-ghost use Rattle.eq_part.specs.inner.Reading.{Adds, BeginAt, IsReady};
-ghost use Rattle.eq_part.specs.inner.Visits.{AreLed, AreVisits, DrawnVisits, FreeVisits, Gains, IsPlacedDriver, IsWordBit, OneVisits, PairsVisit, Unpaired};
-ghost use Rattle.eq_part.specs.inner.Walking.{number_at};
+ghost use Rattle.eq_reads.specs.Words.{BeginAt};
+ghost use Rattle.eq_reads.specs.Graph.{Adds};
+ghost use Rattle.eq_part.specs.inner.Visits.{AreLed, AreVisits, DrawnVisits, FreeVisits, IsWordBit, OneVisits, PairsVisit, Unpaired};
+ghost use Rattle.eq_reads.specs.inner.Drawing.{Gains, IsPlacedDriver};
 
-use crate::edges::{add, push_edge};
-use crate::nodes::Nodes;
-use crate::reached::{Edge, no_marks};
-use crate::row::push;
-use crate::words::{named, picked, push_word};
+use crate::reached::no_marks;
 use eq_base::Memory;
 use eq_match::Pair;
 use eq_net::laws::bits_stand_by_nets;
-use eq_net::{Driver, Net, NetInfo, Word, WordBit};
+use eq_net::{Driver, Net, WordBit};
+use eq_reads::{Edge, Nodes, WordNodes, add, named, picked, push_edge, starts, word_nodes};
 use std::alloc::Global;
-
-/// Where the bits of each net begin.
-pub fn starts(alloc: Global, nets: &[NetInfo]) -> Result<Vec<usize>, Memory>
-    requires { bits_of nets.now < 2 ^ 32 }
-    ensures { IfOk result (λ starts. BeginAt nets.now starts.items) }
-{
-    bits_stand_by_nets();
-    let mut starts = Vec::with_capacity(alloc, nets.len())?;
-    let mut next: usize = 0;
-    for net in nets {
-        starts.push(next)?;
-        next += net.width() as usize;
-    }
-    Ok(starts)
-}
-
-/// Puts the nodes of all words behind one another, and keeps where those of each begin.
-fn push_words(
-    gold: &Net,
-    starts: &[usize],
-    places: &mut Vec<usize>,
-    nodes: &mut Nodes,
-    row: &mut Vec<usize>,
-) -> Result<(), Memory>
-    requires starts { BeginAt gold.now.nets starts.now }
-    requires few { bits_of gold.now.nets < 2 ^ 32 }
-    requires none { places.old.items ≡ [] }
-    requires ready { IsReady (parts_of gold.now) places.old.items nodes.old row.old.items }
-    ensures count { OnOk result (length places.new.items ≡ length (parts_of gold.now).words) }
-    ensures grew { OnOk result (NodesGrew nodes.old nodes.new) }
-    ensures ready { OnOk result (IsReady (parts_of gold.now) places.new.items nodes.new
-        row.new.items) }
-{
-    let words = gold.words.as_slice();
-    for w in 0..words.len() {
-        let begin = row.len();
-        push_word(&words[w], gold, starts, places.as_slice(), nodes, row)?;
-        push(places, begin)?;
-    }
-    Ok(())
-}
 
 /// Adds an edge to the bit of a word that a driver names.
 fn push_driven(
@@ -231,20 +186,6 @@ fn draw(
     Ok(())
 }
 
-/// The node that leads to nothing, behind the first ones.
-fn no_nodes(alloc: Global, first: usize) -> Result<Nodes, Memory>
-    ensures are { IfOk result (λ nodes. AreNodes nodes) }
-    ensures none { IfOk result (λ nodes. nodes.none ≡ first) }
-{
-    let next = add(first, 1)?;
-    let edges = Vec::new(alloc);
-    Ok(Nodes {
-        edges,
-        none: first,
-        next,
-    })
-}
-
 /// The graph.
 pub fn graph_of(alloc: Global, gold: &Net, pairs: &[Pair], leaders: &[u32]) -> Result<Nodes, Memory>
     requires { AreLed (parts_of gold.now) pairs.now leaders.now }
@@ -254,10 +195,12 @@ pub fn graph_of(alloc: Global, gold: &Net, pairs: &[Pair], leaders: &[u32]) -> R
     let starts = starts(alloc, gold.nets.as_slice())?;
     let paired = paired(alloc, gold, pairs, &starts)?;
     let first = add(gold.drivers.len(), pairs.len())?;
-    let mut nodes = no_nodes(alloc, first)?;
-    let mut places = Vec::new(alloc);
-    let mut row = Vec::new(alloc);
-    push_words(gold, &starts, &mut places, &mut nodes, &mut row)?;
+    let words = gold.words.as_slice();
+    let WordNodes {
+        mut nodes,
+        places,
+        row,
+    } = word_nodes(alloc, first, gold.nets.as_slice(), words, &starts)?;
     draw(
         gold,
         pairs,

@@ -3,7 +3,7 @@
 use Rattle.std.specs.Prelude.{◌≡◌, ℕ, ◌<◌, true, List, Option, Some, None, length, slice_index_or}
 use Rattle.eq_part.specs.declared.types.Partition.{Partition}
 use Rattle.eq_part.specs.Tables.{holds}
-use Rattle.eq_part.specs.inner.Walking.{number_at}
+use Rattle.eq_reads.specs.Words.{number_at}
 
 -- the entry at a place, none beyond the last
 abbrev pub place_at : List (Option ℕ) → ℕ → Option ℕ

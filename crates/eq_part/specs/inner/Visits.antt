@@ -11,17 +11,10 @@ use Rattle.eq_match.specs.declared.types.Pair.{Pair}
 use Rattle.eq_match.specs.Groups.{is_held}
 use Rattle.eq_match.specs.Pairs.{pair_at}
 use Rattle.eq_match.specs.Matched.{gold_bit}
-use Rattle.eq_part.specs.declared.reached.Edge.{Edge}
-use Rattle.eq_part.specs.inner.Graph.{AreBetween, Chain, Joins}
-use Rattle.eq_part.specs.inner.Leading.{Leads}
-use Rattle.eq_part.specs.inner.Reading.{IsPlaced, picked_node}
-use Rattle.eq_part.specs.inner.Walking.{number_at}
-
--- edges were added, those of which P holds
-pub record Gains (edges after : List Edge) (P : ℕ → ℕ → Type 0) : Type 0 where
-  pub kept : (a b : ℕ) → Joins edges a b → Joins after a b
-  pub there : (a b : ℕ) → P a b → Joins after a b
-  pub only : (a b : ℕ) → Joins after a b → Joins edges a b ⊎ P a b
+use Rattle.eq_reads.specs.declared.graph.Edge.{Edge}
+use Rattle.eq_reads.specs.Graph.{AreBetween, Joins, Leads}
+use Rattle.eq_reads.specs.inner.Chains.{Chain}
+use Rattle.eq_reads.specs.Words.{number_at, picked_node}
 
 -- a driver's bit of a word has this node
 abbrev pub IsWordBit : List ℕ → List ℕ → Driver → ℕ → Type 0
@@ -78,16 +71,8 @@ outer gold pairs = bits_of gold.nets + length pairs
 pub record AreVisits (gold : Parts) (pairs : List Pair) (leaders : List ℕ) (edges : List Edge) (nodes : ℕ) : Type 0 where
   pub room : outer gold pairs ≤ nodes
   pub between : AreBetween nodes edges
-  pub none : (b : ℕ) → ¬ Joins edges (outer gold pairs) b
   pub there : (a b : ℕ) → Visits gold pairs leaders a b → (x : ℕ) × Joins edges a x × Leads edges (outer gold pairs) x b
   pub only : (a x b : ℕ) → a < outer gold pairs → Joins edges a x → Leads edges (outer gold pairs) x b → Visits gold pairs leaders a b
-
--- the node of the driver's bit of a word is there
-abbrev pub IsPlacedDriver : List ℕ → List ℕ → Driver → Type 0
-IsPlacedDriver places row Input = Unit {0}
-IsPlacedDriver places row Undriven = Unit {0}
-IsPlacedDriver places row (WordOf w j) = IsPlaced places row (record { word = w; bit = j })
-IsPlacedDriver places row (Reg init w j) = IsPlaced places row (record { word = w; bit = j })
 
 -- the nodes of partitions that have an output of which the test says yes
 pub record IsRoot (gold : Parts) (pairs : List Pair) (leaders : List ℕ) (hits : ℕ → Bool) (x : ℕ) : Type 0 where

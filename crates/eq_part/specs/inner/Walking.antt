@@ -1,12 +1,10 @@
 -- Mirrors src/reached.rt; nothing here has to be believed.
 -- The edges of each node as a chain of links, and a walk that marks nodes and puts them into a queue.
-use Rattle.std.specs.Prelude.{◌≡◌, ◌==◌, ℕ, zero, suc, ◌+◌, ◌<◌, ◌≤◌, ◌⊎◌, Bool, true, false, if◌then◌else◌, List, [], ◌∷◌, length, slice_index_or}
+use Rattle.std.specs.Prelude.{◌≡◌, ◌==◌, ℕ, zero, suc, ◌+◌, ◌<◌, ◌≤◌, ◌⊎◌, Bool, true, false, if◌then◌else◌, List, [], ◌∷◌, length}
 use Rattle.eq_model.specs.Frames.{values}
-use Rattle.eq_part.specs.declared.reached.Edge.{Edge}
-use Rattle.eq_part.specs.inner.Graph.{from_at, to_at}
-
-abbrev pub number_at : List ℕ → ℕ → ℕ
-number_at ns k = slice_index_or ns k 0
+use Rattle.eq_reads.specs.declared.graph.Edge.{Edge}
+use Rattle.eq_reads.specs.Graph.{from_at, to_at}
+use Rattle.eq_reads.specs.Words.{number_at}
 
 -- one more than the number of the last of the first k edges that begins at v, 0 where none does
 abbrev pub last_from : List Edge → ℕ → ℕ → ℕ

@@ -1,8 +1,8 @@
 use Rattle.std.proofs.Common.{◌≡◌, ℕ, ◌<◌, ◌↔◌, List, Bool, true, length, arith, ap, subst, sym}
 use Rattle.eq_model.specs.Frames.{values}
 use Rattle.eq_net.specs.Whole.{parts_of}
-use Rattle.eq_part.specs.declared.reached.Edge.{Edge}
-use Rattle.eq_part.specs.inner.Graph.{AreBetween, Joins}
+use Rattle.eq_reads.specs.declared.graph.Edge.{Edge}
+use Rattle.eq_reads.specs.Graph.{AreBetween, Joins}
 use Rattle.eq_part.specs.inner.Visits.{IsPassed, IsWalked}
 use Rattle.eq_part.proofs.Between.{marked_between, turned_within}
 use Rattle.eq_part.proofs.path.on_path.Goals as goal

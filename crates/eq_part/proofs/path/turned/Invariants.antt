@@ -1,5 +1,5 @@
 use Rattle.std.proofs.Common.{◌≡◌, ℕ, ◌<◌, length}
-use Rattle.eq_part.specs.inner.Graph.{from_at, to_at}
+use Rattle.eq_reads.specs.Graph.{from_at, to_at}
 use Rattle.eq_part.proofs.path.turned.Given as goal
 
 abbrev pub invariant-loop-edge : goal.invariant-loop-edge

@@ -1,7 +1,8 @@
 use Rattle.std.proofs.Common.{◌≡◌, ℕ, ◌<◌, ◌⊎◌, true, length, arith, subst}
 use Rattle.eq_model.specs.Frames.{values}
-use Rattle.eq_part.specs.inner.Graph.{Joins}
-use Rattle.eq_part.specs.inner.Walking.{IsSettled, number_at}
+use Rattle.eq_reads.specs.Graph.{Joins}
+use Rattle.eq_part.specs.inner.Walking.{IsSettled}
+use Rattle.eq_reads.specs.Words.{number_at}
 use Rattle.eq_part.proofs.Walked.{element, walking_one}
 use Rattle.eq_part.proofs.reached.walk.Goals as goal
 

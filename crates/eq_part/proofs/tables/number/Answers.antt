@@ -1,5 +1,5 @@
 use Rattle.std.proofs.Common.{arith}
-use Rattle.eq_part.proofs.Placed.{named_there}
+use Rattle.eq_reads.proofs.Placed.{named_there}
 use Rattle.eq_part.proofs.tables.number.Goals as goal
 
 pub overflow_cast-result : goal.overflow_cast-result

@@ -4,7 +4,7 @@ use Rattle.eq_net.specs.Net.{bits_of}
 use Rattle.eq_net.specs.Whole.{parts_of}
 use Rattle.std.proofs.Common.{length}
 use Rattle.eq_part.specs.inner.Visits.{DrawnVisits, FreeVisits, PairsVisit}
-use Rattle.eq_part.proofs.Gained.{gains_then}
+use Rattle.eq_reads.proofs.Gained.{gains_then}
 use Rattle.eq_part.proofs.visits.draw.Goals as goal
 
 pub returns : goal.returns

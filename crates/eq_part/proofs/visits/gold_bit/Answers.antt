@@ -3,7 +3,7 @@ use Rattle.eq_net.specs.declared.types.NetInfo.{NetInfo}
 use Rattle.eq_net.specs.Net.{number_of}
 use Rattle.eq_match.specs.declared.types.Pair.{Pair}
 use Rattle.eq_match.specs.Pairs.{pair_at}
-use Rattle.eq_part.proofs.Placed.{named_there}
+use Rattle.eq_reads.proofs.Placed.{named_there}
 use Rattle.eq_part.proofs.visits.gold_bit.Goals as goal
 
 pub returns-clause-there : goal.returns-clause-there

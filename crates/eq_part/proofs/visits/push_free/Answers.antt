@@ -2,9 +2,10 @@ use Rattle.std.proofs.Common.{◌+◌, Vec, Global, subst, sym}
 use Rattle.eq_model.specs.Frames.{values}
 use Rattle.eq_net.specs.declared.types.Driver.{Driver}
 use Rattle.eq_net.specs.Whole.{parts_of}
-use Rattle.eq_part.specs.declared.reached.Edge.{Edge}
-use Rattle.eq_part.specs.inner.Reading.{Adds}
-use Rattle.eq_part.specs.inner.Visits.{FreeVisits, Gains, IsWordBit}
+use Rattle.eq_reads.specs.declared.graph.Edge.{Edge}
+use Rattle.eq_reads.specs.Graph.{Adds}
+use Rattle.eq_part.specs.inner.Visits.{FreeVisits, IsWordBit}
+use Rattle.eq_reads.specs.inner.Drawing.{Gains}
 use Rattle.eq_part.proofs.Gained.{free_next, free_other}
 use Rattle.eq_part.proofs.visits.push_free.Goals as goal
 use Rattle.eq_part.proofs.visits.push_free.Goals.{then-not-paired-b+in_ok-push_driven, else-not-paired-b}

@@ -1,6 +1,7 @@
 use Rattle.eq_model.specs.Frames.{values}
 use Rattle.eq_net.specs.Whole.{parts_of}
-use Rattle.eq_part.specs.inner.Visits.{FreeVisits, Gains}
+use Rattle.eq_part.specs.inner.Visits.{FreeVisits}
+use Rattle.eq_reads.specs.inner.Drawing.{Gains}
 use Rattle.eq_part.proofs.visits.push_free.Given as goal
 
 abbrev pub invariant-loop-b : goal.invariant-loop-b

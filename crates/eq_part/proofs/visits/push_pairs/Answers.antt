@@ -4,8 +4,9 @@ use Rattle.eq_net.specs.Net.{driver_at}
 use Rattle.eq_net.specs.Whole.{parts_of}
 use Rattle.eq_match.specs.declared.types.Pair.{Pair}
 use Rattle.eq_match.specs.Matched.{gold_bit}
-use Rattle.eq_part.specs.inner.Visits.{Gains, OneVisits, part_node}
-use Rattle.eq_part.specs.inner.Walking.{number_at}
+use Rattle.eq_reads.specs.inner.Drawing.{Gains}
+use Rattle.eq_part.specs.inner.Visits.{OneVisits, part_node}
+use Rattle.eq_reads.specs.Words.{number_at}
 use Rattle.eq_part.proofs.Gained.{pairs_next}
 use Rattle.eq_part.proofs.visits.push_pairs.Goals as goal
 

@@ -1,5 +1,6 @@
 use Rattle.eq_net.specs.Whole.{parts_of}
-use Rattle.eq_part.specs.inner.Visits.{Gains, PairsVisit}
+use Rattle.eq_reads.specs.inner.Drawing.{Gains}
+use Rattle.eq_part.specs.inner.Visits.{PairsVisit}
 use Rattle.eq_part.proofs.visits.push_pairs.Given as goal
 
 abbrev pub invariant-loop-i : goal.invariant-loop-i

@@ -1,7 +1,0 @@
-use Rattle.std.proofs.Common.{◌+◌}
-use Rattle.eq_part.proofs.Swept.{CombineLeads, Swept}
-use Rattle.eq_part.proofs.nodes.combine.Given as goal
-
-abbrev pub invariant-loop-j : goal.invariant-loop-j
-invariant-loop-j l = Swept l.fn.nodes l.fn.row.items l.nodes l.row.items l.left (l.left + l.j)
-    (CombineLeads l.fn.nodes l.fn.row.items l.left l.right)

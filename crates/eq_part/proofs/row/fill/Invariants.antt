@@ -1,5 +1,0 @@
-use Rattle.eq_part.specs.inner.Leading.{Appended}
-use Rattle.eq_part.proofs.row.fill.Given as goal
-
-abbrev pub invariant-loop : goal.invariant-loop
-invariant-loop l = Appended l.fn.row.items l.row.items l.counter (λ j. l.node)

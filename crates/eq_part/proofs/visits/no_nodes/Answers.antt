@@ -1,5 +1,0 @@
-use Rattle.eq_part.proofs.Grown.{no_edges}
-use Rattle.eq_part.proofs.visits.no_nodes.Goals as goal
-
-pub returns-clause-are : goal.returns-clause-are
-returns-clause-are c = no_edges _ c.new-edges.ensures.items c.in_ok-next.ensures

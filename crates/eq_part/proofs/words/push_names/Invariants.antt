@@ -1,6 +1,0 @@
-use Rattle.eq_part.specs.inner.Leading.{Appended}
-use Rattle.eq_part.specs.inner.Reading.{named_at}
-use Rattle.eq_part.proofs.words.push_names.Given as goal
-
-abbrev pub invariant-loop-k : goal.invariant-loop-k
-invariant-loop-k l = Appended l.fn.row.items l.row.items l.k (named_at l.nets l.names)

@@ -1,6 +1,0 @@
-use Rattle.eq_part.specs.inner.Leading.{Appended}
-use Rattle.eq_part.specs.inner.Reading.{picked_at}
-use Rattle.eq_part.proofs.words.push_picks.Given as goal
-
-abbrev pub invariant-loop-k : goal.invariant-loop-k
-invariant-loop-k l = Appended l.fn.row.items l.row.items l.k (picked_at l.places l.fn.row.items l.bits)

@@ -1,0 +1,12 @@
+pub mod Drawn
+pub mod Gained
+pub mod Grown
+pub mod Layers
+pub mod Operated
+pub mod Placed
+pub mod Ranged
+pub mod Rows
+pub mod Shaped
+pub mod Swept
+pub mod Ways
+pub mod Worded
