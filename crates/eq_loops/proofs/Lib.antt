@@ -1,0 +1,5 @@
+pub mod Backs
+pub mod Clear
+pub mod Suspected
+pub mod Traced
+pub mod Looped
