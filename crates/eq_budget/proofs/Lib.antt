@@ -1,0 +1,10 @@
+pub mod Summed
+pub mod Named
+pub mod Shifted
+pub mod Costed
+pub mod Connected
+pub mod Wide
+pub mod Based
+pub mod Joined
+pub mod Linked
+pub mod Paid
