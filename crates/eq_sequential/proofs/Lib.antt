@@ -1,0 +1,9 @@
+pub mod Matched
+pub mod FineItems
+pub mod AlikeItems
+pub mod KnownPaths
+pub mod PutLemmas
+pub mod FollowingLemmas
+pub mod DesignLemmas
+pub mod EventLemmas
+pub mod ReadyLemmas
