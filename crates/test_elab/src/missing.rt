@@ -2,7 +2,7 @@
 
 use crate::lines::{NEXT_UNDRIVEN, NO_OUTPUT, OUTPUT_FIRST, READ_BEHIND, READ_FIRST, UNREAD};
 use crate::nets::made;
-use eq_elab::first_missed;
+use eq_marks::first_missed;
 use eq_net::Net;
 use std::alloc::Global;
 use std::test::Fail;

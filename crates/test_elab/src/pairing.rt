@@ -7,8 +7,8 @@ ghost use Rattle.eq_net.specs.Whole.{parts_of};
 
 use eq_base::Memory;
 use eq_config::Config;
-use eq_elab::laws::ports_that_fit;
-use eq_elab::same_ports;
+use eq_marks::laws::ports_that_fit;
+use eq_marks::same_ports;
 use eq_match::laws::pairs_are_matched;
 use eq_match::{Pairs, pairs};
 use eq_net::Net;

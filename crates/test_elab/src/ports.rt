@@ -6,7 +6,7 @@ use crate::lines::{
     STORED, STORED_WIDER, TURNED, TWO_INPUTS, WIDER, WIRES,
 };
 use crate::nets::made;
-use eq_elab::{PortErr, same_ports};
+use eq_marks::{PortErr, same_ports};
 use eq_net::Net;
 use std::alloc::Global;
 use std::test::Fail;

@@ -2,7 +2,7 @@
 
 use crate::lines::{CLOCK_OUT, CLOCK_STORED, COPIED, COPIED_AND_READ, IGNORING, INVERTING};
 use crate::nets::made;
-use eq_elab::first_taking;
+use eq_marks::first_taking;
 use eq_net::Net;
 use std::alloc::Global;
 use std::test::Fail;

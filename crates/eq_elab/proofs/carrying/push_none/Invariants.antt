@@ -1,5 +1,0 @@
-use Rattle.std.proofs.Common.{◌≡◌, ◌++◌, None, replicate}
-use Rattle.eq_elab.proofs.carrying.push_none.Given as goal
-
-abbrev pub invariant-loop : goal.invariant-loop
-invariant-loop l = l.stack.items ≡ l.fn.stack.items ++ replicate l.counter None

@@ -1,7 +1,0 @@
-use Rattle.eq_elab.specs.Answers.{meaning}
-use Rattle.eq_elab.specs.inner.Headers.{NonePasses, differs_in_direction}
-use Rattle.eq_elab.proofs.headers.first_direction.Given as goal
-
-abbrev pub invariant-loop-place : goal.invariant-loop-place
-invariant-loop-place l = NonePasses (differs_in_direction (meaning l.gold) (meaning l.gate)) (meaning l.gold).ports
-    l.place

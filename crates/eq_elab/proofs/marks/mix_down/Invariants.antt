@@ -1,5 +1,0 @@
-use Rattle.eq_elab.proofs.MarkSteps.{IsMixedDown}
-use Rattle.eq_elab.proofs.marks.mix_down.Given as goal
-
-abbrev pub invariant-loop-turn : goal.invariant-loop-turn
-invariant-loop-turn l = IsMixedDown l.way l.count l.turn l.from l.all l.fn.stack.items l.stack.items

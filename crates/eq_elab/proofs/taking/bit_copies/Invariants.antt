@@ -1,8 +1,0 @@
-use Rattle.std.proofs.Common.{◌≡◌, map, take}
-use Rattle.eq_elab.specs.inner.Carrying.{rows_mark}
-use Rattle.eq_elab.specs.inner.Taking.{driven_mark}
-use Rattle.eq_elab.proofs.taking.bit_copies.Given as goal
-
-abbrev pub invariant-loop-driver : goal.invariant-loop-driver
-invariant-loop-driver l = l.copies.items ≡ map (driven_mark (rows_mark l.rows.items)) (take l.driver-index
-    l.drivers)

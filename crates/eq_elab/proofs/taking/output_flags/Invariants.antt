@@ -1,6 +1,0 @@
-use Rattle.std.proofs.Common.{◌≡◌, ◌++◌, drop}
-use Rattle.eq_elab.specs.inner.Taking.{output_flags}
-use Rattle.eq_elab.proofs.taking.output_flags.Given as goal
-
-abbrev pub invariant-loop-net : goal.invariant-loop-net
-invariant-loop-net l = l.flags.items ++ output_flags (drop l.net-index l.nets) ≡ output_flags l.nets

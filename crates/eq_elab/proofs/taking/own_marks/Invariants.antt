@@ -1,5 +1,0 @@
-use Rattle.eq_elab.specs.inner.Taking.{AreOwn}
-use Rattle.eq_elab.proofs.taking.own_marks.Given as goal
-
-abbrev pub invariant-loop-bit : goal.invariant-loop-bit
-invariant-loop-bit l = AreOwn l.bit l.marks.items

@@ -1,7 +1,0 @@
-pub mod Carrying
-pub mod Marks
-pub mod Clocking
-pub mod Taking
-pub mod Missing
-pub mod Headers
-pub mod Comparing

@@ -1,0 +1,16 @@
+pub mod MarkSteps
+pub mod MarkStacks
+pub mod WordTrees
+pub mod MarkRows
+pub mod MarkWords
+pub mod MarkTables
+pub mod MarkMeaning
+pub mod Pigeons
+pub mod Ends
+pub mod ClockSteps
+pub mod TakingLemmas
+pub mod MissingLemmas
+pub mod HeaderLemmas
+pub mod SamePorts
+pub mod EventLemmas
+pub mod Told
