@@ -1,0 +1,11 @@
+pub mod Counts
+pub mod Firsts
+pub mod Doubled
+pub mod Placed
+pub mod Spread
+pub mod Regs
+pub mod Flagged
+pub mod Later
+pub mod Grown
+pub mod Chosen
+pub mod Told
