@@ -1,0 +1,3 @@
+pub mod Elaborating
+pub mod Naming
+pub mod Looping
