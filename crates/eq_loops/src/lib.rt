@@ -3,8 +3,8 @@
 //! What only makes it fast promises nothing, and what it gives is tested: where a test failed, more bits would be tried.
 //!
 //! - `numbers`: the number at a place, and sums.
-//! - `links`: the edges of each node. `finishing`: a walk in depth. `spreading`: a walk in breadth. `components`: numbers of
-//!   the strongly connected components of a graph. Nothing is promised of them.
+//! - `links`: the edges of each node. `finishing`: a walk in depth. `spreading`: a walk in breadth. Nothing is promised of them.
+//! - `components`: numbers of the strongly connected components of a graph, which fall along no edge (`NeverFall`).
 //! - `suspects`: with such numbers a node before which none is on a cycle (`AreClear`).
 //! - `back`: the nodes from which edges lead back to a bit (`LeadBack`).
 //! - `rounds`: the round of bits through a bit, or that there is none (`IsRound`, `IsClear`).
@@ -21,5 +21,6 @@ mod rounds;
 mod spreading;
 mod suspects;
 
+pub use components::component_numbers;
 pub use eq_base::Memory;
 pub use loops::first_loop;

@@ -8,7 +8,7 @@ ghost use Rattle.eq_net.specs.Tree.{trees_of};
 ghost use Rattle.eq_reads.specs.Graph.{bare};
 ghost use Rattle.eq_loops.specs.Cycle.{IsCycle};
 
-use crate::components::components;
+use crate::components::component_numbers;
 use crate::rounds::first_round;
 use crate::suspects::first_suspect;
 use eq_base::Memory;
@@ -36,7 +36,7 @@ pub fn first_loop(
 {
     let graph = reads_graph(alloc, nets, words, drivers)?;
     let edges = graph.edges.as_slice();
-    let numbers = components(alloc, graph.next, edges)?;
+    let numbers = component_numbers(alloc, graph.next, edges)?;
     let begin = first_suspect(edges, &numbers, drivers.len());
     first_round(alloc, graph.next, edges, drivers.len(), begin)
 }

@@ -5,5 +5,5 @@ use Rattle.eq_loops.proofs.suspects.first_suspect.Goals as goal
 pub returns-clause-clear : goal.returns-clause-clear
 returns-clause-clear c =
     let end = c.loop-edge-test.false in
-    suspects_clear c.args.edges.now c.args.numbers.now c.args.bits c.loop-edge.first c.loop-edge.edge-index (omega arith)
-    c.loop-edge.invariant
+    suspects_clear c.args.edges.now c.args.numbers.now c.args.bits c.loop-edge.first c.loop-edge.edge-index
+    c.requires.rising (omega arith) c.loop-edge.invariant
