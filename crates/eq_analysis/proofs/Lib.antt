@@ -17,3 +17,5 @@ pub mod MarkLemmas
 pub mod TargetLemmas
 pub mod OutputLemmas
 pub mod AssignLemmas
+pub mod ClimbingLemmas
+pub mod EdgeLemmas

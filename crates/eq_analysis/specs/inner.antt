@@ -1,3 +1,4 @@
+pub mod Climbing
 pub mod Duplicates
 pub mod Ranging
 pub mod Mentioning

@@ -4,6 +4,7 @@
 //! - `modules`: the modules of all sources (`all_modules`), the module of a name, `duplicate_module`, `no_top`.
 //! - `visiting`: the modules that are reached from the top, in the order of first visit (`reached`).
 //! - `unknown`, `recursion`: the refusals that look at the modules of instances (`unknown_module`, `recursive`).
+//!   `hierarchy`: the graph of modules, by whose components most modules are seen not to be recursive (`IsApart`).
 //! - `naming`: the nets of a module, in the order of first mention (`nets_in`). `placing`: where they begin (`offset`).
 //! - `declaring`, `tables`, `tabled`: what each module declares of a name, by look-ups (`range_of`, `dir_of`, `is_reg`, ..).
 //! - `duplicates`: names that a module gives twice (`duplicate_name`).
@@ -12,7 +13,7 @@
 //! - `connections`: instances and gates that don't fit (`bad_connection`).
 //! - `marking`, `targets`, `setting`: targets of a wrong net or with a bit twice (`bad_equation_target`, `bad_set`).
 //! - `outputs`, `assigning`: what outputs are connected to, and all targets of a module (`bad_output`, `bad_target`).
-//! - `faults`, `ordering`: these over all modules that are reached, and the first of all (`module_fault`).
+//! - `faults`, `ordering`: these over all modules that are reached, and the first of all (`check_modules`).
 #![tactic(auto)]
 
 mod again;
@@ -21,6 +22,7 @@ mod connections;
 mod declaring;
 mod duplicates;
 mod faults;
+mod hierarchy;
 mod marking;
 mod mentions;
 mod modules;
@@ -45,7 +47,7 @@ pub use again::has_name;
 pub use marking::{is_marked, mark};
 pub use modules::{all_modules, duplicate_module};
 pub use naming::{Mentioned, nets_in};
-pub use ordering::{Fault, module_fault};
+pub use ordering::{Fault, Tabled, check_modules};
 pub use placing::{Places, bits_of, low_of, places_of};
 pub use scope::{net_number, position, range, span, width};
 pub use sizes::{Sizing, inner_size, operand_sizes, own, own_of_all, sizing_of};

@@ -5,7 +5,7 @@ ghost use Rattle.eq_verilog.specs.Trees.{module_tree};
 ghost use Rattle.eq_verilog.specs.Hierarchy.{module_names, reached as reached_of};
 ghost use Rattle.eq_verilog.specs.Firsts.{first_of};
 ghost use Rattle.eq_verilog.specs.Refusals.{module_faults};
-ghost use Rattle.eq_analysis.specs.Ordering.{refusal_of};
+ghost use Rattle.eq_analysis.specs.Ordering.{refusal_of, Tells};
 ghost use Rattle.eq_analysis.specs.Tabling.{trees_at, AreNamed};
 ghost use Rattle.eq_analysis.specs.inner.Staging.{names_faults, hierarchy_faults, range_faults, target_faults, table_faults, reached_faults};
 
@@ -30,6 +30,13 @@ use std::alloc::Global;
 pub struct Fault<'a> {
     pub kind: ElabKind,
     pub name: &'a Name,
+}
+
+/// Modules of which nothing is refused: their names, each at its module's place, and their tables.
+#[derive(Drop)]
+pub struct Tabled<'a> {
+    pub names: NameTable,
+    pub tables: Vec<Table<'a>>,
 }
 
 /// Two modules of one name, or no top. Where neither is, the table has the modules' names.
@@ -166,59 +173,61 @@ fn table_fault<'a>(
     }
 }
 
-/// The same with tables made of all modules.
-fn tabled_fault<'a>(
+/// The refusal of modules that are there, or else their tables.
+fn of_order<'a>(
     alloc: Global,
-    names: &NameTable,
+    names: NameTable,
     modules: &[&'a Module],
     order: &[&Module],
-) -> Result<Option<Fault<'a>>, Memory>
-    requires named { names.now ≡ module_names (map (λ m. module_tree m.now) modules.now) }
+) -> Result<Result<Tabled<'a>, Fault<'a>>, Memory>
+    requires named { names ≡ module_names (map (λ m. module_tree m.now) modules.now) }
     requires found { AreNamed (map (λ m. module_tree m.now) modules.now)
         (map (λ m. module_tree m.now) order.now) }
-    ensures { IfOk result (λ found. option_map refusal_of found ≡ first_of
-        (table_faults (map (λ m. module_tree m.now) modules.now)
-        (map (λ m. module_tree m.now) order.now))) }
+    ensures { IfOk result (Tells (map (λ m. module_tree m.now) modules.now) (table_faults
+        (map (λ m. module_tree m.now) modules.now) (map (λ m. module_tree m.now) order.now))) }
 {
     let tables = all_tables(alloc, modules)?;
-    table_fault(alloc, names, tables.as_slice(), order)
-}
-
-/// What is wrong with modules that are there, each of its own name.
-#[tactic(auto, using(crate::proofs::FirstLemmas::after_two))]
-fn reached_fault<'a>(
-    alloc: Global,
-    names: &NameTable,
-    modules: &[&'a Module],
-    top: &'a Name,
-) -> Result<Option<Fault<'a>>, Memory>
-    requires named { names.now ≡ module_names (map (λ m. module_tree m.now) modules.now) }
-    ensures { IfOk result (λ found. option_map refusal_of found ≡ first_of
-        (reached_faults (map (λ m. module_tree m.now) modules.now)
-        (reached_of (map (λ m. module_tree m.now) modules.now) top.now))) }
-{
-    let order = reached(alloc, names, modules, top)?;
-    reached_by_name();
-    match hierarchy_fault(alloc, names, modules, order.as_slice())? {
-        Some(fault) => Ok(Some(fault)),
-        None => tabled_fault(alloc, names, modules, order.as_slice()),
+    match table_fault(alloc, &names, tables.as_slice(), order)? {
+        Some(fault) => Ok(Err(fault)),
+        None => Ok(Ok(Tabled { names, tables })),
     }
 }
 
-/// The first thing that is wrong with the modules: the first of the nine refusals of modules.
+/// The refusal of modules each of its own name, or else their tables.
 #[tactic(auto, using(crate::proofs::FirstLemmas::after_two))]
-pub fn module_fault<'a>(
+fn of_names<'a>(
+    alloc: Global,
+    names: NameTable,
+    modules: &[&'a Module],
+    top: &'a Name,
+) -> Result<Result<Tabled<'a>, Fault<'a>>, Memory>
+    requires named { names ≡ module_names (map (λ m. module_tree m.now) modules.now) }
+    ensures { IfOk result (Tells (map (λ m. module_tree m.now) modules.now) (reached_faults
+        (map (λ m. module_tree m.now) modules.now)
+        (reached_of (map (λ m. module_tree m.now) modules.now) top.now))) }
+{
+    let order = reached(alloc, &names, modules, top)?;
+    reached_by_name();
+    match hierarchy_fault(alloc, &names, modules, order.as_slice())? {
+        Some(fault) => Ok(Err(fault)),
+        None => of_order(alloc, names, modules, order.as_slice()),
+    }
+}
+
+/// The first of the nine refusals of modules, or else what was found out of them.
+#[tactic(auto, using(crate::proofs::FirstLemmas::after_two))]
+pub fn check_modules<'a>(
     alloc: Global,
     modules: &[&'a Module],
     top: &'a Name,
-) -> Result<Option<Fault<'a>>, Memory>
-    ensures { IfOk result (λ found. option_map refusal_of found ≡ first_of
-        (module_faults (map (λ m. module_tree m.now) modules.now) top.now
+) -> Result<Result<Tabled<'a>, Fault<'a>>, Memory>
+    ensures { IfOk result (Tells (map (λ m. module_tree m.now) modules.now) (module_faults
+        (map (λ m. module_tree m.now) modules.now) top.now
         (reached_of (map (λ m. module_tree m.now) modules.now) top.now))) }
 {
     let mut names = NameTable::new(alloc)?;
     match names_fault(alloc, &mut names, modules, top)? {
-        Some(fault) => Ok(Some(fault)),
-        None => reached_fault(alloc, &names, modules, top),
+        Some(fault) => Ok(Err(fault)),
+        None => of_names(alloc, names, modules, top),
     }
 }

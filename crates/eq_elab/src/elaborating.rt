@@ -12,9 +12,10 @@ ghost use Rattle.eq_verilog.specs.BitRefusals as refusals;
 ghost use Rattle.eq_verilog.specs.Costs as costs;
 ghost use Rattle.eq_verilog.specs.Designs.{clock_bit, elaborated};
 ghost use Rattle.eq_verilog.specs.Firsts.{first_again, first_below, first_of};
-ghost use Rattle.eq_verilog.specs.Hierarchy.{reached};
+ghost use Rattle.eq_verilog.specs.Hierarchy.{module_names, reached};
 ghost use Rattle.eq_verilog.specs.Nets.{bit_name, full_names};
 ghost use Rattle.eq_verilog.specs.Refusals.{module_faults, IsAccepted, IsRefusedFor, Refusal};
+ghost use Rattle.eq_analysis.specs.Tabling.{trees_at};
 ghost use Rattle.eq_flatten.specs.Spelled.{IsModuleSpelled};
 ghost use Rattle.eq_drivers.specs.Telling.{AreRegs, Tell};
 ghost use Rattle.eq_layout.specs.Layout.{design_in, trees_of, AreSound, IsLaidOut};
@@ -26,7 +27,7 @@ use crate::checking::{clock_as_data, doubled_bit, edges, unbegun_bit, undriven_b
 use crate::looping::named_loop;
 use crate::naming::name_of;
 use crate::wiring::{drivers_of, slots_of};
-use eq_analysis::{all_modules, all_tables, duplicate_module, module_fault};
+use eq_analysis::{Tabled, all_modules, check_modules};
 use eq_assembly::assemble;
 use eq_base::Memory;
 use eq_budget::laws::words_are_paid;
@@ -35,7 +36,7 @@ use eq_drivers::{Slots, reg_flags};
 use eq_flatten::path_clash;
 use eq_layout::{Layout, lay_out};
 use eq_loops::first_loop;
-use eq_names::{Name, NameTable};
+use eq_names::Name;
 use eq_net::laws::words_make_a_system;
 use eq_net::{Driver, Net, NetInfo, Words};
 use eq_verilog::laws::one_outcome;
@@ -73,9 +74,9 @@ fn attempt(alloc: Global, sources: &[Source], top: &Name) -> Result<Result<Net, 
     ensures { IfOk result (Elaborates (modules_of sources.now) top.now) }
 {
     let modules = all_modules(alloc, sources)?;
-    match module_fault(alloc, &modules, top)? {
-        Some(fault) => at_name(alloc, fault.kind, fault.name),
-        None => of_modules(alloc, &modules, top),
+    match check_modules(alloc, &modules, top)? {
+        Ok(tabled) => of_modules(alloc, &modules, tabled, top),
+        Err(fault) => at_name(alloc, fault.kind, fault.name),
     }
 }
 
@@ -106,16 +107,17 @@ fn at_bit(
 fn of_modules(
     alloc: Global,
     modules: &[&Module],
+    tabled: Tabled,
     top: &Name,
 ) -> Result<Result<Net, ElabErr>, Memory>
+    requires names { tabled.names ≡ module_names (map (λ m. module_tree m.now) modules.now) }
+    requires tables { trees_at tabled.tables.items ≡ map (λ m. module_tree m.now) modules.now }
     requires spelled { All IsModuleSpelled (map (λ m. module_tree m.now) modules.now) }
     requires faultless { first_of (module_faults (map (λ m. module_tree m.now) modules.now) top.now
         (reached (map (λ m. module_tree m.now) modules.now) top.now)) ≡ None }
     ensures { IfOk result (Elaborates (map (λ m. module_tree m.now) modules.now) top.now) }
 {
-    let mut names = NameTable::new(alloc)?;
-    duplicate_module(alloc, &mut names, modules)?;
-    let tables = all_tables(alloc, modules)?;
+    let Tabled { names, tables } = tabled;
     let cost = design_cost(alloc, &names, &tables, top)?;
     match excess(cost) {
         Some(number) => Ok(Err(ElabErr::TooLarge { number })),

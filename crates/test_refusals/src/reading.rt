@@ -1,6 +1,6 @@
 //! Texts read, and the first refusal of their modules. The top is the module `t`.
 
-use eq_analysis::{all_modules, module_fault};
+use eq_analysis::{all_modules, check_modules};
 use eq_names::Name;
 use eq_verilog::ElabKind;
 use eq_vlex::tokens;
@@ -41,9 +41,9 @@ pub(crate) fn is_refused(
     let sources = sources_of(alloc, texts)?;
     let modules = all_modules(alloc, &sources)?;
     let top = Name::read(alloc, b"t")?;
-    match module_fault(alloc, &modules, &top)? {
-        Some(fault) => Ok(fault.kind == kind && fault.name.bytes() == name.as_bytes()),
-        None => Ok(false),
+    match check_modules(alloc, &modules, &top)? {
+        Ok(_) => Ok(false),
+        Err(fault) => Ok(fault.kind == kind && fault.name.bytes() == name.as_bytes()),
     }
 }
 
@@ -52,7 +52,7 @@ pub(crate) fn is_accepted(alloc: Global, texts: &[&str]) -> Result<bool, Fail> {
     let sources = sources_of(alloc, texts)?;
     let modules = all_modules(alloc, &sources)?;
     let top = Name::read(alloc, b"t")?;
-    Ok(module_fault(alloc, &modules, &top)?.is_none())
+    Ok(check_modules(alloc, &modules, &top)?.is_ok())
 }
 
 /// The first row that isn't refused for this, with its name.
