@@ -1,0 +1,3 @@
+pub mod Together
+pub mod Counted
+pub mod Numbers
