@@ -1,0 +1,4 @@
+pub mod Counts
+pub mod Sizes
+pub mod Rows
+pub mod OneMore

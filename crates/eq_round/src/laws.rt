@@ -1,0 +1,31 @@
+//! Laws of what is done.
+
+ghost use Rattle.std.specs.Prelude.{◌≡◌, ℕ, List, Some, slice_get};
+ghost use Rattle.eq_compose.specs.Rows.{AreRight, IsRight};
+ghost use Rattle.eq_compose.specs.declared.types.Row.{Row};
+ghost use Rattle.eq_net.specs.Whole.{parts_of};
+ghost use Rattle.eq_report.specs.Rows.{row_of};
+ghost use Rattle.eq_round.specs.Done.{AreRowsOfDone, IsPartitionDone};
+ghost use Rattle.eq_round.specs.declared.deciding.Done.{Done};
+ghost use Rattle.eq_round.specs.declared.work.Work.{Work};
+
+use crate::deciding::Done;
+use crate::work::Work;
+use eq_compose::laws::a_proved_part_never_differs;
+use eq_induct::laws::a_verdict_is_induction;
+
+/// The row of what a partition came to is right. Proved in `proofs/Rows.antt`.
+pub fn rows_of_done_are_right()
+    ensures one { (w : Work) (i : ℕ) (d : Done) → IsPartitionDone w i d →
+        IsRight (parts_of w.gold.now) (parts_of w.gate.now) w.plan.now i
+        (row_of w.strategies.now i d.decided).verdict }
+    // So are all rows, where each is made so.
+    ensures all { (w : Work) (rows : List Row) → AreRowsOfDone w rows →
+        AreRight (parts_of w.gold.now) (parts_of w.gate.now) w.plan.now rows }
+    // And each has the number of its place.
+    ensures order { (w : Work) (rows : List Row) → AreRowsOfDone w rows →
+        (q : ℕ) (row : Row) → slice_get rows q ≡ Some row → row.part ≡ q }
+{
+    a_verdict_is_induction();
+    a_proved_part_never_differs();
+}
