@@ -29,3 +29,13 @@ pub fn rows_of_done_are_right()
     a_verdict_is_induction();
     a_proved_part_never_differs();
 }
+
+/// Takes a value of a type that may move between threads and be shared by them.
+fn across_threads<T: Send + Sync>(_: &T) {}
+
+/// What partitions are decided by, and what they come to, may move between threads and be shared by them: else this
+/// function has no proof.
+pub fn rounds_cross_threads(work: &Work<'_>, done: &Done) {
+    across_threads(work);
+    across_threads(done);
+}

@@ -20,4 +20,4 @@ pub use deciding::{Done, decide_partition};
 pub use eq_base::{Bytes, Memory};
 pub use evidence::evidence_of;
 pub use rounds::decide_round;
-pub use work::{MOST_SIZE, Work, size_number};
+pub use work::{MOST_SIZE, Work, are_strategies_for, size_number};
