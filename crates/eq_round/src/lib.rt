@@ -7,7 +7,7 @@
 //! - `deciding`: `decide_partition`, what the strategies come to on a partition (`IsPartitionDone`).
 //! - `rounds`: `decide_round`, the same of several partitions in order (`AreDone`).
 //! - `evidence`: `evidence_of`, the text of that (`evidence_text`).
-//! - `laws`: the rows of what is done are right.
+//! - `laws`: the rows of what is done are right, and an UNKNOWN row has a cause for each strategy that applies.
 #![tactic(auto)]
 
 mod deciding;
